@@ -1,0 +1,37 @@
+-- Document 01, 'Numbers the engine answers with': the order in which a text is judged, and what it holds where it is accepted. Assumes nothing.
+use mathlib.Core.Path.{_≡_, refl}
+use mathlib.Core.List.{List, [], _∷_, map}
+use Prim.Native.Nat.{ℕ}
+use Prim.Native.String.{String}
+use Rattle.meaning.specs.Basics.{bytes, all}
+use Rattle.meaning.specs.Arithmetic.{Sort, number, yes-no, sub, domain, range}
+use Rattle.meaning.specs.Numbers.{Number, LINE, TERM}
+use Rattle.meaning.specs.Text.{Verdict, fine, refused, _>>=_, _>>_, judge-length, judge-shape, judge-lines, judge-line, judge-counts, judge-symbols, judge-names, lines, line-of, all-but-last, wrong-field, first-wrong, forms, pieces, onto-first, is-visible, is-name, is-count, are-sorts, is-result, value-from, sort-of, same, is-among}
+use Rattle.meaning.specs.Terms.{Term, arg, op, nil, cons, Program, Function, read-bodies, function-of, read-body, nothing-after, read-term, read-taken, read-row, then-more, and-more, with-arguments, applied, condition-of, strict-of, other-terms, first-terms, if-sort, same-sort, takes-of, call-takes, argument-takes, wrong-number, symbol, spelt-in, named, is-decimal}
+
+-- "Order: 1, then 2 over all lines, 3, 4, then 5 and 6 by the first place"
+unfoldable pub check : List ℕ → Verdict Program
+check text = do
+  judge-length text
+  judge-shape text
+  judge-counts (lines text)
+  judge-names 1 [] (map (λ h. h .name) (lines text))
+  read-bodies (lines text) 1 (lines text)
+
+-- The same for a text as these pages write it, with all that it computes by.
+unfoldable pub check-text : String → Verdict Program
+unfolding check _>>=_ _>>_ judge-length judge-shape judge-lines judge-line judge-counts judge-symbols judge-names lines line-of all-but-last wrong-field first-wrong forms pieces onto-first is-visible is-name is-count are-sorts is-result value-from sort-of same is-among all read-bodies function-of read-body nothing-after read-term read-taken read-row then-more and-more with-arguments applied condition-of strict-of other-terms first-terms if-sort same-sort takes-of call-takes argument-takes wrong-number symbol spelt-in named is-decimal domain range
+check-text s = check (bytes s)
+
+-- What an accepted text holds; nothing where it is refused.
+unfoldable pub found : Verdict Program → Program
+found (fine P) = P
+found (refused n line field) = []
+
+pub a-difference : check-text "DIF\t2\tnn\tn\t-\ta\tb\n" ≡ fine (record { sorts = number ∷ number ∷ []; strict = 2; result = number; body = op sub (cons (arg 0) (cons (arg 1) nil)) } ∷ [])
+unfolding check-text
+a-difference = refl
+
+pub places : check-text "" ∷ check-text "X\t2\tn\tn\ta\n" ∷ check-text "X\t0\tn\tn\t+\ta\n" ∷ [] ≡ refused LINE 1 1 ∷ refused LINE 1 3 ∷ refused TERM 1 7 ∷ []
+unfolding check-text
+places = refl

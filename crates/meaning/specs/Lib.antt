@@ -1,0 +1,11 @@
+pub mod Basics
+pub mod Arithmetic
+pub mod Numbers
+pub mod Text
+pub mod Terms
+pub mod Check
+pub mod Code
+pub mod Machine
+pub mod Rewriting
+pub mod Answers
+pub mod Program

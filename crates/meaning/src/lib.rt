@@ -1,0 +1,74 @@
+// What a caller of the engine sees: heads, answers, and document 01's numbers and limits by name.
+// What they mean stands in specs/, page by page in document 01's order. Assumes nothing.
+
+// One function of an accepted text: how many arguments it takes, how many of them are strict, its result's sort (n 0, b 1), and the address of its body's first symbol.
+#[repr(C)]
+pub struct Head {
+    pub args: u32,
+    pub strict: u32,
+    pub result: u32,
+    pub body: u32,
+}
+
+// What Check and Translate answer.
+#[repr(C)]
+pub struct Checked {
+    pub number: u32,
+    pub line: u32,
+    pub field: u32,
+    pub functions: u32,
+    pub instructions: u32,
+}
+
+// What Run answers.
+#[repr(C)]
+pub struct Answer {
+    pub number: u32,
+    pub value: u32,
+    pub line: u32,
+    pub field: u32,
+    pub steps: u32,
+    pub rewrites: u32,
+}
+
+// The numbers, as specs/Numbers.antt has them.
+pub const HALT: u32 = 0;
+
+pub const LONG: u32 = 1;
+
+pub const LINE: u32 = 2;
+
+pub const COUNT: u32 = 3;
+
+pub const NAME: u32 = 4;
+
+pub const TERM: u32 = 5;
+
+pub const NEST: u32 = 6;
+
+pub const ARGS: u32 = 7;
+
+pub const ROOM: u32 = 8;
+
+pub const FUEL: u32 = 9;
+
+pub const DEEP: u32 = 10;
+
+pub const STUCK: u32 = 11;
+
+// The limits.
+pub const MOST_BYTES: usize = 16384;
+
+pub const MOST_FUNCTIONS: usize = 64;
+
+pub const MOST_SYMBOLS: usize = 1024;
+
+pub const MOST_DEPTH: usize = 32;
+
+pub const MOST_ARGUMENTS: usize = 8;
+
+pub const MOST_HEIGHT: usize = 512;
+
+pub const INSTRUCTION_WORDS: usize = 12;
+
+pub const WORK_WORDS: usize = 8192;

@@ -1,0 +1,1 @@
+// The figures of document 01, proved over one table in specs/. No functions.
