@@ -32,6 +32,7 @@ heads-from a (F ∷ P) =
     record { args = length (F .sorts); strict = F .strict; result = sort-number (F .result); body = a }
     ∷ heads-from (a + size (F .body)) P
 
+-- The heads of a program: the first body stands after the initial term.
 unfoldable pub heads-of : Program → List Head
 heads-of P = heads-from (size (initial P)) P
 
@@ -54,13 +55,16 @@ unfoldable pub with-heads : Verdict Program → List Head → List Head
 with-heads (fine P) heads = written-over (heads-of P) heads
 with-heads (refused n line field) heads = heads
 
+-- The same for code words.
 unfoldable pub with-code : Verdict Program → List ℕ → List ℕ
 with-code (fine P) code = written-over (code-words (translation P)) code
 with-code (refused n line field) code = code
 
+-- What Check answers for a text and a number of lent heads, and what those hold afterwards.
 unfoldable pub check-answer : List ℕ → ℕ → Checked
 check-answer text heads = checked (admit-check text heads)
 
+-- What the lent heads hold after Check.
 unfoldable pub check-heads : List ℕ → List Head → List Head
 check-heads text heads = with-heads (admit-check text (length heads)) heads
 
@@ -70,6 +74,7 @@ check-heads text heads = with-heads (admit-check text (length heads)) heads
 abbrev pub code-fits : Program → ℕ → Bool
 code-fits P code = leb (instruction-words * length (translation P)) code
 
+-- A text that Translate accepts, so many code words being lent.
 unfoldable pub admit-translate : List ℕ → ℕ → Verdict Program
 admit-translate text code = check text >>= λ P. judge-room (code-fits P code) >> fine P
 
@@ -77,6 +82,7 @@ admit-translate text code = check text >>= λ P. judge-room (code-fits P code) >
 unfoldable pub translate-answer : List ℕ → ℕ → Checked
 translate-answer text code = checked (admit-translate text code)
 
+-- What the lent code holds afterwards.
 unfoldable pub translate-code : List ℕ → List ℕ → List ℕ
 translate-code text code = with-code (admit-translate text (length code)) code
 
@@ -87,16 +93,19 @@ unfoldable pub fits : Sort → ℕ → Bool
 fits number v = true
 fits yes-no v = leb v 1
 
+-- As many values as sorts, each fitting its own.
 unfoldable pub all-fit : List Sort → List ℕ → Bool
 all-fit [] [] = true
 all-fit [] (v ∷ vs) = false
 all-fit (s ∷ S) [] = false
 all-fit (s ∷ S) (v ∷ vs) = fits s v && all-fit S vs
 
+-- Whether values fit the entry.
 unfoldable pub fitting : Program → List ℕ → Bool
 fitting [] vs = false
 fitting (F ∷ P) vs = all-fit (F .sorts) vs
 
+-- Refused unless the arguments fit.
 unfoldable pub judge-arguments : Bool → Passed
 judge-arguments true = fine tt
 judge-arguments false = refused ARGS 0 0
@@ -109,10 +118,12 @@ admit-run text args code work = check text >>= λ P. judge-arguments (fitting P 
 unfoldable pub ran : Ending → Answer
 ran (ended n v steps rewrites) = record { number = no n; value = v; line = 0; field = 0; steps = steps; rewrites = rewrites }
 
+-- The answer: the run's, or the refusal.
 unfoldable pub answered : Verdict Program → List ℕ → ℕ → Answer
 answered (fine P) args limit = ran (run-program P args limit)
 answered (refused n line field) args limit = record { number = no n; value = 0; line = line; field = field; steps = 0; rewrites = 0 }
 
+-- What Run answers for a text, arguments, a limit, and so many words of code and work.
 unfoldable pub run-answer : List ℕ → List ℕ → ℕ → ℕ → ℕ → Answer
 run-answer text args limit code work = answered (admit-run text args code work) args limit
 
@@ -120,12 +131,15 @@ run-answer text args limit code work = answered (admit-run text args code work) 
 unfoldable pub run-code : List ℕ → List ℕ → List ℕ → ℕ → List ℕ
 run-code text args code work = with-code (admit-run text args (length code) work) code
 
+-- As many words as a run works with, all 0.
 unfoldable pub zero-words : List ℕ
 zero-words = replicate work-words 0
 
+-- The work words after a run, or unchanged.
 unfoldable pub cleared : Verdict Program → List ℕ → List ℕ
 cleared (fine P) work = written-over zero-words work
 cleared (refused n line field) work = work
 
+-- What the lent work words hold after Run.
 unfoldable pub run-work : List ℕ → List ℕ → ℕ → List ℕ → List ℕ
 run-work text args code work = cleared (admit-run text args code (length work)) work

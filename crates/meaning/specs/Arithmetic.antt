@@ -12,9 +12,11 @@ use Rattle.meaning.specs.Basics.{if_then_else_}
 abbrev pub modulus : ℕ
 modulus = 2 ^ 32
 
+-- `+`
 unfoldable pub sum : ℕ → ℕ → ℕ
 sum a b = (a + b) % modulus
 
+-- `-`
 unfoldable pub difference : ℕ → ℕ → ℕ
 difference a b = (a + (modulus - b)) % modulus
 
@@ -23,13 +25,15 @@ pub difference-wraps : difference 3 4294967290 ≡ 9
 unfolding difference
 difference-wraps = refl
 
+-- `*`
 unfoldable pub product : ℕ → ℕ → ℕ
 product a b = (a * b) % modulus
 
--- "`/` and `%` round down; with a divisor of 0 both give 0."
+-- "`/` and `%` round down; with a divisor of 0 both give 0." `/`
 unfoldable pub quotient : ℕ → ℕ → ℕ
 quotient a b = if eqb b 0 then 0 else a / b
 
+-- `%`
 unfoldable pub remainder : ℕ → ℕ → ℕ
 remainder a b = if eqb b 0 then 0 else a % b
 
@@ -37,7 +41,7 @@ pub divisor-zero : quotient 7 0 ∷ remainder 7 0 ∷ quotient 7 2 ∷ remainder
 unfolding quotient remainder
 divisor-zero = refl
 
--- "Yes is 1, no is 0."
+-- "Yes is 1, no is 0." A test as a yes/no, and a yes/no as a test.
 abbrev pub truth : Bool → ℕ
 truth true = 1
 truth false = 0
@@ -45,18 +49,23 @@ truth false = 0
 abbrev pub is-yes : ℕ → Bool
 is-yes a = not (eqb a 0)
 
+-- `=`
 unfoldable pub equal : ℕ → ℕ → ℕ
 equal a b = truth (eqb a b)
 
+-- `<`
 unfoldable pub less : ℕ → ℕ → ℕ
 less a b = truth (ltb a b)
 
+-- `&` ("`&` and `|` work out both sides")
 unfoldable pub both : ℕ → ℕ → ℕ
 both a b = truth (is-yes a && is-yes b)
 
+-- `|`
 unfoldable pub either : ℕ → ℕ → ℕ
 either a b = truth (is-yes a || is-yes b)
 
+-- `!`
 unfoldable pub opposite : ℕ → ℕ
 opposite a = truth (eqb a 0)
 
@@ -90,6 +99,7 @@ op-number and = 8
 op-number or = 9
 op-number neg = 10
 
+-- The constant's value; 0 for an operation that is none.
 unfoldable pub op-constant : Op → ℕ
 op-constant (constant s v) = v
 op-constant add = 0
@@ -103,7 +113,7 @@ op-constant and = 0
 op-constant or = 0
 op-constant neg = 0
 
--- "`true` `false`; `+ - * / %` (two numbers to a number); `= <` (two numbers to b); `& |` (two b to b); `!` (b to b)"
+-- "`+ - * / %` (two numbers to a number); `= <` (two numbers to b); `& |` (two b to b); `!` (b to b)": the sorts that an operation takes,
 unfoldable pub domain : Op → List Sort
 domain (constant s v) = []
 domain add = number ∷ number ∷ []
@@ -117,6 +127,7 @@ domain and = yes-no ∷ yes-no ∷ []
 domain or = yes-no ∷ yes-no ∷ []
 domain neg = yes-no ∷ []
 
+-- and the one that it gives.
 unfoldable pub range : Op → Sort
 range (constant s v) = s
 range add = number
@@ -130,7 +141,7 @@ range and = yes-no
 range or = yes-no
 range neg = yes-no
 
--- The value of an operation at the values that it is given; none where they are not as many as it takes.
+-- A function of no value, of one and of two at a list of values; none where they are not as many.
 unfoldable pub of-none : ℕ → List ℕ → Option ℕ
 of-none v [] = some v
 of-none v (a ∷ vs) = none
@@ -146,6 +157,7 @@ of-two f (a ∷ []) = none
 of-two f (a ∷ b ∷ []) = some (f a b)
 of-two f (a ∷ b ∷ c ∷ vs) = none
 
+-- The value of an operation at the values that it is given.
 unfoldable pub apply : Op → List ℕ → Option ℕ
 apply (constant s v) = of-none v
 apply add = of-two sum

@@ -8,6 +8,7 @@ use Prim.Native.String.{String, [] as []ˢ, _∷_ as _∷ˢ_}
 use lib.Dec.{leb}
 use lib.ListN.{length, drop}
 
+-- A choice by a test.
 infix 10 if_then_else_
 abbrev pub if_then_else_ : {A : Type 0} → Bool → A → A → A
 if true then a else b = a

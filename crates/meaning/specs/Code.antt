@@ -21,6 +21,7 @@ unfoldable mutual
   sizes nil = 0
   sizes (cons t ts) = size t + sizes ts
 
+-- How many terms a row has.
 unfoldable pub count : Terms → ℕ
 count nil = 0
 count (cons t ts) = suc (count ts)
@@ -38,6 +39,7 @@ unfoldable mutual
   row-entrance nil a home = home
   row-entrance (cons t ts) a home = entrance t a
 
+-- The entrance of each term of a row.
 unfoldable pub entrances : Terms → ℕ → List ℕ
 entrances nil a = []
 entrances (cons t ts) a = entrance t a ∷ entrances ts (a + size t)
@@ -93,6 +95,7 @@ module _ (bodies : List ℕ) (ret : ℕ) where
   bodies-code [] a = []
   bodies-code (F ∷ P) a = code (F .body) a ret ++ bodies-code P (a + size (F .body))
 
+-- The entrance of each body, and how many symbols they have in all.
 unfoldable pub body-entrances : Program → ℕ → List ℕ
 body-entrances [] a = []
 body-entrances (F ∷ P) a = entrance (F .body) a ∷ body-entrances P (a + size (F .body))
@@ -106,6 +109,7 @@ unfoldable pub own : ℕ → ℕ → Terms
 own zero i = nil
 own (suc n) i = cons (arg i) (own n (suc i))
 
+-- The initial term. (No text without functions is accepted: `arg 0` stands for none.)
 unfoldable pub initial : Program → Term
 initial [] = arg 0
 initial (F ∷ P) = call 0 (own (F .strict) 0) (own (length (F .sorts) - F .strict) (F .strict))
@@ -114,6 +118,7 @@ initial (F ∷ P) = call 0 (own (F .strict) 0) (own (length (F .sorts) - F .stri
 unfoldable pub ret-address : Program → ℕ
 ret-address P = size (initial P) + bodies-size P
 
+-- All instructions of a program, by address.
 unfoldable pub translation : Program → List Instruction
 translation P =
     let n = size (initial P) in
@@ -129,6 +134,7 @@ used-words (SELECT x y) = 3 ∷ 0 ∷ x ∷ y ∷ []
 used-words (CALL e k ws b) = 4 ∷ b ∷ e ∷ k ∷ ws
 used-words RET = 5 ∷ 0 ∷ []
 
+-- Twelve words, and the words of code.
 unfoldable pub twelve : List ℕ → List ℕ
 twelve ws = take instruction-words (ws ++ replicate instruction-words 0)
 

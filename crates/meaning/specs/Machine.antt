@@ -16,6 +16,7 @@ pub data Slot : Type 0 where
   value : ℕ → Slot
   waiting : ℕ → Slot
 
+-- A frame has a slot for each argument of a call.
 abbrev pub Frame : Type 0
 Frame = List Slot
 
@@ -49,6 +50,7 @@ look-at none b rs ds f e es = no-step
 look-at (some (value v)) b rs ds f e es = next (state (at b) rs (v ∷ ds) ((f ∷ e) ∷ es))
 look-at (some (waiting a)) b rs ds f e es = next (state (at a) (at b ∷ rs) ds (e ∷ (f ∷ e) ∷ es))
 
+-- The argument is looked for in the first frame of the current environment.
 unfoldable pub look-up : ℕ → ℕ → List Place → List ℕ → List Environment → Next
 look-up i b rs ds [] = no-step
 look-up i b rs ds ([] ∷ es) = no-step
@@ -59,6 +61,7 @@ unfoldable pub push-result : Option ℕ → ℕ → List Place → List ℕ → 
 push-result none b rs ds es = no-step
 push-result (some v) b rs ds es = next (state (at b) rs (v ∷ ds) es)
 
+-- An operation with the values that it takes off the stack.
 unfoldable pub execute : Op → Option (List ℕ × List ℕ) → ℕ → List Place → List Environment → Next
 execute o none b rs es = no-step
 execute o (some p) b rs es = push-result (apply o (p .0)) b rs (p .1) es
@@ -75,6 +78,7 @@ unfoldable pub enter : Option (List ℕ × List ℕ) → ℕ → List ℕ → �
 enter none a ws b rs e es = no-step
 enter (some p) a ws b rs e es = next (state (at a) (at b ∷ rs) (p .1) (((map value (p .0) ++ map waiting ws) ∷ e) ∷ e ∷ es))
 
+-- The frame is added to the environment on top.
 unfoldable pub call-body : ℕ → ℕ → List ℕ → ℕ → List Place → List ℕ → List Environment → Next
 call-body a k ws b rs ds [] = no-step
 call-body a k ws b rs ds (e ∷ es) = enter (taken k [] ds) a ws b rs e es
@@ -111,10 +115,12 @@ too-high (state p rs ds es) = ltb most-height (length ds) || ltb most-height (le
 pub data Ending : Type 0 where
   ended : Number → ℕ → ℕ → ℕ → Ending
 
+-- What the data stack has on top.
 unfoldable pub top : List ℕ → ℕ
 top [] = 0
 top (d ∷ ds) = d
 
+-- What a step that can be made leads to, and what one that cannot.
 unfoldable pub unless-high : Bool → ℕ → ℕ → State → (State → Ending) → Ending
 unless-high true n r s go-on = ended DEEP 0 n r
 unless-high false n r s go-on = go-on s
@@ -136,6 +142,7 @@ run code (suc left) (state (at a) rs ds es) n r =
 unfoldable pub start : ℕ → List ℕ → State
 start a vs = state (at a) (stop ∷ []) [] ((map value vs ∷ []) ∷ [])
 
+-- The run of a program at argument values.
 unfoldable pub run-program : Program → List ℕ → ℕ → Ending
 run-program P vs limit =
     let is = translation P in

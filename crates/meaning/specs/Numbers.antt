@@ -1,12 +1,13 @@
 -- Document 01, 'Numbers the engine answers with': the twelve numbers by name, and the limits that they speak of. Assumes nothing.
 use Prim.Native.Nat.{ℕ}
 
+-- The names.
 pub data Number : Type 0 where
   HALT : Number
   LONG LINE COUNT NAME TERM NEST ARGS ROOM : Number
   FUEL DEEP STUCK : Number
 
--- The table. Each is given exactly when ..
+-- The table: each number is given exactly when what stands behind it holds.
 unfoldable pub no : Number → ℕ
 no HALT = 0  -- accepted; for Run, the machine has stopped
 no LONG = 1  -- text over 16,384 bytes
@@ -21,7 +22,7 @@ no FUEL = 9  -- step limit met
 no DEEP = 10  -- a step would make a stack 513 high
 no STUCK = 11  -- the machine has no next step and hasn't stopped
 
--- The limits.
+-- The limits, as the table and the sections after it name them.
 abbrev pub most-bytes : ℕ
 most-bytes = 16384
 

@@ -17,10 +17,12 @@ pub data Order : Type 0 where
   malformed : Order
   order : ℕ → List ℕ → List ℕ → Order
 
+-- Whether every field is a decimal.
 unfoldable pub are-decimals : List Field → Bool
 are-decimals [] = true
 are-decimals (f ∷ fs) = is-decimal f && are-decimals fs
 
+-- The longest first line.
 abbrev pub first-line-bytes : ℕ
 first-line-bytes = 128
 
@@ -28,6 +30,7 @@ first-line-bytes = 128
 unfoldable pub is-first-line : Field → Bool
 is-first-line p = leb (length p) first-line-bytes && (leb (length (pieces tab p)) (1 + most-arguments) && are-decimals (pieces tab p))
 
+-- The first decimal is the limit, the others are the arguments.
 unfoldable pub limit-and-arguments : List Field → List ℕ → Order
 limit-and-arguments [] text = malformed
 limit-and-arguments (f ∷ fs) text = order (value f) (map value fs) text
@@ -38,6 +41,7 @@ ordered [] input = malformed
 ordered (p ∷ []) input = malformed
 ordered (p ∷ q ∷ ps) input = if is-first-line p then limit-and-arguments (pieces tab p) (drop (length p + 1) input) else malformed
 
+-- What the bytes of standard input ask for.
 unfoldable pub order-of : List ℕ → Order
 order-of input = ordered (pieces line-end input) input
 
@@ -47,9 +51,11 @@ without-zeros [] = []
 without-zeros (d ∷ []) = d ∷ []
 without-zeros (d ∷ e ∷ ds) = if eqb d (byte "0") then without-zeros (e ∷ ds) else d ∷ e ∷ ds
 
+-- The places of ten digits.
 abbrev pub ten-places : List ℕ
 ten-places = 1000000000 ∷ 100000000 ∷ 10000000 ∷ 1000000 ∷ 100000 ∷ 10000 ∷ 1000 ∷ 100 ∷ 10 ∷ 1 ∷ []
 
+-- Its digits.
 unfoldable pub decimal : ℕ → List ℕ
 decimal n = without-zeros (map (λ p. byte "0" + n / p % 10) ten-places)
 
@@ -72,5 +78,6 @@ unfoldable pub answer-order : Order → Answer
 answer-order malformed = record { number = no ARGS; value = 0; line = 0; field = 0; steps = 0; rewrites = 0 }
 answer-order (order limit args text) = run-answer text args limit most-code-words work-words
 
+-- What the program writes for what it reads.
 unfoldable pub output : List ℕ → List ℕ
 output input = printed (answer-order (order-of input))

@@ -22,6 +22,7 @@ mutual
     none-left : Closeds
     and-then : Closed → Closeds → Closeds
 
+-- One row after another.
 unfoldable pub _followed-by_ : Closeds → Closeds → Closeds
 none-left followed-by ds = ds
 and-then c cs followed-by ds = and-then c (cs followed-by ds)
@@ -45,6 +46,7 @@ unfoldable mutual
   put-all-in nil cs = none-left
   put-all-in (cons t ts) cs = and-then (put-in t cs) (put-all-in ts cs)
 
+-- Values as terms.
 unfoldable pub vals : List ℕ → Closeds
 vals [] = none-left
 vals (v ∷ vs) = and-then (val v) (vals vs)
@@ -61,11 +63,13 @@ pub data RowRewrite : Type 0 where
   become : Closeds → RowRewrite
   no-rules : RowRewrite
 
+-- A row that begins with a value, or with a term that is none.
 unfoldable pub after-value : ℕ → RowRewrite → RowRewrite
 after-value v (are-values vs) = are-values (v ∷ vs)
 after-value v (become cs) = become (and-then (val v) cs)
 after-value v no-rules = no-rules
 
+-- The first term of a row, the others after it, and what one rewrite would make of those.
 unfoldable pub in-row : Rewrite → Closeds → RowRewrite → RowRewrite
 in-row (is-value v) cs others = after-value v others
 in-row (becomes c) cs others = become (and-then c cs)
@@ -76,6 +80,7 @@ unfoldable pub to-value : Option ℕ → Rewrite
 to-value none = no-rule
 to-value (some v) = becomes (val v)
 
+-- An operation, by what one rewrite makes of its arguments.
 unfoldable pub rewrite-op : Op → RowRewrite → Rewrite
 rewrite-op o (are-values vs) = to-value (apply o vs)
 rewrite-op o (become cs) = becomes (op-of o cs)
@@ -87,6 +92,7 @@ branch zero x y = becomes y
 branch (suc zero) x y = becomes x
 branch (suc (suc v)) x y = no-rule
 
+-- A `cond`, by what one rewrite makes of its condition.
 unfoldable pub rewrite-cond : Rewrite → Closed → Closed → Rewrite
 rewrite-cond (is-value v) x y = branch v x y
 rewrite-cond (becomes c) x y = becomes (cond-of c x y)
@@ -97,11 +103,13 @@ unfoldable pub body-of : Option Function → Closeds → Rewrite
 body-of none cs = no-rule
 body-of (some F) cs = becomes (put-in (F .body) cs)
 
+-- A call, by what one rewrite makes of its strict arguments.
 unfoldable pub rewrite-call : Program → ℕ → RowRewrite → Closeds → Rewrite
 rewrite-call P f (are-values vs) ws = body-of (getElem? P f) (vals vs followed-by ws)
 rewrite-call P f (become cs) ws = becomes (call-of f cs ws)
 rewrite-call P f no-rules ws = no-rule
 
+-- One leftmost rewrite of a term.
 unfoldable mutual
   pub rewrite : Program → Closed → Rewrite
   rewrite P (val v) = is-value v
@@ -119,6 +127,7 @@ from-there (is-value v) go-on = no-rule
 from-there (becomes c) go-on = go-on c
 from-there no-rule go-on = no-rule
 
+-- The same from a term on.
 unfoldable pub rewrite-times : Program → ℕ → Closed → Rewrite
 rewrite-times P zero c = rewrite P c
 rewrite-times P (suc n) c = from-there (rewrite P c) (rewrite-times P n)

@@ -52,6 +52,7 @@ pub record Word : Type 0 where
 abbrev word : String → Symbol → Word
 word s y = record { spelt = bytes s; means = y }
 
+-- All words that are not decimals or names.
 abbrev pub vocabulary : List Word
 vocabulary =
     word "a" (argument 0) ∷ word "b" (argument 1) ∷ word "c" (argument 2) ∷ word "d" (argument 3)
@@ -72,6 +73,7 @@ unfoldable pub named : ℕ → List Field → Field → Symbol
 named i [] f = unknown
 named i (n ∷ ns) f = if same f n then function i else named (i + 1) ns f
 
+-- What a field means among some words, or else.
 unfoldable pub spelt-in : List Word → Field → Symbol → Symbol
 spelt-in [] f else-it-is = else-it-is
 spelt-in (w ∷ ws) f else-it-is = if same f (w .spelt) then w .means else spelt-in ws f else-it-is
@@ -100,6 +102,7 @@ pub data Takes : Type 0 where
   takes : List Sort → Sort → Takes
   cannot : Wrong → Takes
 
+-- An argument takes nothing and has its own sort; a call takes what its function says.
 unfoldable pub argument-takes : Option Sort → Takes
 argument-takes none = cannot lacking-argument
 argument-takes (some s) = takes [] s
@@ -117,12 +120,14 @@ takes-of H G s condition = takes (yes-no ∷ s ∷ s ∷ []) s
 takes-of H G s (function f) = call-takes (getElem? H f)
 takes-of H G s unknown = cannot unknown-symbol
 
+-- "of the wrong sort": what a symbol gives has to be what is expected.
 unfoldable pub same-sort : Sort → Sort → Bool
 same-sort number number = true
 same-sort number yes-no = false
 same-sort yes-no number = false
 same-sort yes-no yes-no = true
 
+-- What a symbol takes, if it gives the sort s.
 unfoldable pub if-sort : Sort → Takes → Takes
 if-sort s (cannot w) = cannot w
 if-sort s (takes S r) = if same-sort r s then takes S r else cannot other-sort
@@ -134,6 +139,7 @@ pub data Read (A : Type 0) : Type 0 where
   got : A → List Symbol → Read A
   fault : Wrong → List Symbol → Read A
 
+-- The first k of a row of terms, and the others.
 unfoldable pub first-terms : ℕ → Terms → Terms
 first-terms zero ts = nil
 first-terms (suc k) nil = nil
@@ -144,6 +150,7 @@ other-terms zero ts = ts
 other-terms (suc k) nil = nil
 other-terms (suc k) (cons t ts) = other-terms k ts
 
+-- The strict count of the function called.
 unfoldable pub strict-of : Option Line → ℕ
 strict-of none = 0
 strict-of (some h) = h .strict
@@ -155,6 +162,7 @@ condition-of (cons t nil) = arg 0
 condition-of (cons t (cons x nil)) = arg 0
 condition-of (cons t (cons x (cons y ts))) = cond t x y
 
+-- The term that a symbol makes with what it takes.
 unfoldable pub applied : List Line → Symbol → Terms → Term
 applied H (argument i) ts = arg i
 applied H (operation o) ts = op o ts
@@ -162,6 +170,7 @@ applied H condition ts = condition-of ts
 applied H (function f) ts = call f (first-terms (strict-of (getElem? H f)) ts) (other-terms (strict-of (getElem? H f)) ts)
 applied H unknown ts = arg 0
 
+-- Reading goes on with what was read, and stops at the first fault.
 unfoldable pub with-arguments : List Line → Symbol → Read Terms → Read Term
 with-arguments H y (got ts ys) = got (applied H y ts) ys
 with-arguments H y (fault w ys) = fault w ys
@@ -179,6 +188,7 @@ unfoldable pub read-row : (Sort → List Symbol → Read Term) → List Sort →
 read-row one [] ys = got nil ys
 read-row one (s ∷ S) ys = then-more (one s ys) (read-row one S)
 
+-- A symbol's arguments by `row`, or the fault at the symbol itself.
 unfoldable pub read-taken : List Line → Symbol → Takes → List Symbol → (List Sort → Read Terms) → Read Term
 read-taken H y (takes S r) here row = with-arguments H y (row S)
 read-taken H y (cannot w) here row = fault w here

@@ -16,6 +16,7 @@ pub data Verdict (A : Type 0) : Type 0 where
   fine : A → Verdict A
   refused : Number → ℕ → ℕ → Verdict A
 
+-- One test after the other: the first refusal stands.
 infixl 20 _>>=_
 infixl 20 _>>_
 unfoldable pub _>>=_ : {A B : Type 0} → Verdict A → (A → Verdict B) → Verdict B
@@ -26,14 +27,17 @@ unfoldable pub _>>_ : {A B : Type 0} → Verdict A → Verdict B → Verdict B
 fine a >> next = next
 refused n line field >> next = refused n line field
 
+-- A test that finds nothing but a fault.
 abbrev pub Passed : Type 0
 Passed = Verdict (Unit {0})
 
 -- Fields.
 
+-- A field or a line is a list of bytes.
 abbrev pub Field : Type 0
 Field = List ℕ
 
+-- The byte that parts fields, and the one that ends a line.
 abbrev pub tab : ℕ
 tab = 9
 
@@ -64,6 +68,7 @@ is-capital = between (byte "A") (byte "Z")
 abbrev pub is-digit : ℕ → Bool
 is-digit = between (byte "0") (byte "9")
 
+-- A name, eight bytes at most.
 unfoldable pub is-name : Field → Bool
 is-name [] = false
 is-name (x ∷ xs) = is-capital x && (leb (length xs) 7 && all (λ y. is-capital y || is-digit y) xs)
@@ -78,6 +83,7 @@ is-count (x ∷ y ∷ ys) = false
 abbrev pub is-sort : ℕ → Bool
 is-sort x = eqb x (byte "n") || eqb x (byte "b")
 
+-- The sorts of a function with that strict count.
 unfoldable pub are-sorts : ℕ → Field → Bool
 are-sorts strict f = between 1 most-arguments (length f) && (leb strict (length f) && all is-sort f)
 
@@ -92,6 +98,7 @@ unfoldable pub value-from : ℕ → Field → ℕ
 value-from v [] = v
 value-from v (x ∷ xs) = value-from (v * 10 + (x - byte "0")) xs
 
+-- The number that a field of digits stands for.
 abbrev pub value : Field → ℕ
 value = value-from 0
 
@@ -109,6 +116,7 @@ first-wrong k [] (f ∷ fs) = if is-visible f then first-wrong (k + 1) [] fs els
 first-wrong k (form ∷ more) [] = k
 first-wrong k (form ∷ more) (f ∷ fs) = if form f then first-wrong (k + 1) more fs else k
 
+-- The same of a whole line.
 unfoldable pub wrong-field : List Field → ℕ
 wrong-field fs = first-wrong 1 (forms (value (getD fs 1 []))) fs
 
@@ -118,12 +126,14 @@ unfoldable pub judge-line : ℕ → ℕ → Passed → Passed
 judge-line l zero others = others
 judge-line l (suc k) others = refused LINE l (suc k)
 
+-- The lines from line l on.
 unfoldable pub judge-lines : ℕ → List Field → Passed
 judge-lines l [] = fine tt
 judge-lines l ([] ∷ []) = fine tt
 judge-lines l ((x ∷ xs) ∷ []) = refused LINE l 0
 judge-lines l (p ∷ q ∷ ps) = judge-line l (wrong-field (pieces tab p)) (judge-lines (l + 1) (q ∷ ps))
 
+-- LINE, over all lines.
 unfoldable pub judge-shape : List ℕ → Passed
 judge-shape [] = refused LINE 1 1
 judge-shape (x ∷ xs) = judge-lines 1 (pieces line-end (x ∷ xs))
@@ -136,9 +146,11 @@ pub record Line : Type 0 where
   pub result : Sort
   pub body : List Field
 
+-- The sort of a letter.
 unfoldable pub sort-of : ℕ → Sort
 sort-of x = if eqb x (byte "b") then yes-no else number
 
+-- What the fields of such a line say.
 unfoldable pub line-of : List Field → Line
 line-of fs =
     record {
@@ -149,6 +161,7 @@ line-of fs =
       body = drop 4 fs;
     }
 
+-- The pieces that a byte 10 ends: all but the last.
 unfoldable pub all-but-last : List Field → List Field
 all-but-last [] = []
 all-but-last (p ∷ []) = []
@@ -170,10 +183,11 @@ judge-symbols l seen (h ∷ hs) =
     then judge-symbols (l + 1) (seen + length (h .body)) hs
     else refused COUNT l (4 + (most-symbols + 1 - seen))
 
+-- COUNT.
 unfoldable pub judge-counts : List Line → Passed
 judge-counts hs = if leb (length hs) most-functions then judge-symbols 1 0 hs else refused COUNT (most-functions + 1) 0
 
--- "NAME: field 1 of the first line that repeats an earlier name."
+-- Whether two fields are the same bytes, and whether a field is one of several.
 unfoldable pub same : Field → Field → Bool
 same [] [] = true
 same [] (y ∷ ys) = false
@@ -184,6 +198,7 @@ unfoldable pub is-among : Field → List Field → Bool
 is-among f [] = false
 is-among f (n ∷ ns) = same f n || is-among f ns
 
+-- "NAME: field 1 of the first line that repeats an earlier name."
 unfoldable pub judge-names : ℕ → List Field → List Field → Passed
 judge-names l earlier [] = fine tt
 judge-names l earlier (n ∷ ns) = if is-among n earlier then refused NAME l 1 else judge-names (l + 1) (earlier ++ (n ∷ [])) ns

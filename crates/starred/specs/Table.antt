@@ -62,7 +62,7 @@ pub starred : map (λ r. six-fields (r .text) (r .args) (r .limit)) starred-rows
 unfolding six-fields
 starred = refl
 
--- The rows without a star, with the first 32 `!` of the deepest texts.
+-- The rows without a star.
 abbrev pub other-rows : List Row
 other-rows =
     runs pair (9 ∷ 7 ∷ []) 518 (answers 10 0 517 513)
@@ -77,6 +77,11 @@ other-rows =
 pub others : map (λ r. six-fields (r .text) (r .args) (r .limit)) other-rows ≡ map (λ r. r .answer) other-rows
 unfolding six-fields
 others = refl
+
+-- The definitions compute at length: 10,000 steps.
+pub ten-thousand-steps : six-fields "W\t1\tn\tn\tcond\t<\ta\t1\ta\t+\tW\t-\ta\t1\tW\t-\ta\t1\n" (13 ∷ []) 10000 ≡ answers 9 0 10000 6506
+unfolding six-fields
+ten-thousand-steps = refl
 
 -- The largest limit.
 pub largest-limit : six-fields "ID\t1\tn\tn\ta\n" (7 ∷ []) 4294967295 ≡ answers 0 7 5 1
