@@ -63,11 +63,16 @@ pub decimals : decimal 0 ∷ decimal 7 ∷ decimal 4294967295 ∷ [] ≡ bytes "
 unfolding decimal without-zeros
 decimals = refl
 
--- "Output is one line: number, value, line, field, steps, rewrites."
+-- "Output is one line: number, value, line, field, steps, rewrites.": each a decimal with the byte after it.
+unfoldable pub printed-field : ℕ → ℕ → List ℕ
+printed-field n end = decimal n ++ (end ∷ [])
+
 unfoldable pub printed : Answer → List ℕ
 printed r =
-    decimal (r .number) ++ (tab ∷ decimal (r .value)) ++ (tab ∷ decimal (r .line)) ++ (tab ∷ decimal (r .field)) ++ (tab ∷ decimal (r .steps)) ++ (tab ∷ decimal (r .rewrites))
-    ++ (line-end ∷ [])
+    printed-field (r .number) tab
+    ++ (printed-field (r .value) tab
+    ++ (printed-field (r .line) tab
+    ++ (printed-field (r .field) tab ++ (printed-field (r .steps) tab ++ printed-field (r .rewrites) line-end))))
 
 -- The program lends as many code words as any text needs: the body symbols, the entry on its arguments, and RET.
 abbrev pub most-code-words : ℕ
