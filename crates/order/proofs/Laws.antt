@@ -1,0 +1,166 @@
+-- Laws of first lines: one argument more, and what the whole line asks for. Assumes nothing.
+use mathlib.Core.Path.{_≡_, refl, ap, sym, subst, _∙_}
+use mathlib.Core.Bool.{Bool, true, false, _&&_}
+use mathlib.Core.Option.{Option, none, some}
+use mathlib.Core.List.{List, [], _∷_, _++_, map, append-nil, append-assoc}
+use Prim.Native.Nat.{ℕ, zero, suc, _+_, _-_, _≤_, _<_, min}
+use native.Mathlib.Omega.{arith}
+use native.Mathlib.Numerals.{add-one}
+use native.Mathlib.Nat.{zero-add, sub-zero}
+use lib.Dec.{leb, leb·suc-suc}
+use lib.ListN.{length, take, drop, set, length-take, length-append}
+use lib.Seq.{take-suc-set}
+use borrow.Author.Tests.{le-leb, lt-leb, leb-true, leb-false}
+use Rattle.meaning.specs.Basics.{if_then_else_}
+use Rattle.meaning.specs.Text.{Field, pieces, tab, line-end, value}
+use Rattle.meaning.specs.Terms.{is-decimal}
+use Rattle.meaning.specs.Program.{Order, malformed, order, are-decimals, is-first-line, limit-and-arguments, ordered, order-of}
+use Rattle.fields.specs.Fields.{span, rest, decimal-of}
+use Rattle.fields.specs.declared.Decimal.{Decimal}
+use Rattle.fields.specs.declared.Decimal.the-variants.{Not, Value}
+use Rattle.fields.proofs.Laws.{first-piece, next-piece, no-piece}
+use Rattle.order.specs.Asked.{arguments-from, Told, Line, Asks}
+use Rattle.order.specs.declared.Asked.{Asked}
+
+-- a field that is a decimal, and one that is none
+is-value : (f : Field) (b : Bool) (v : ℕ) → (if b then Value (value f) else Not) ≡ Value v → (b ≡ true) × (value f ≡ v)
+is-value f true v e = (refl, cc)
+is-value f false v e = (cc, cc)
+
+is-none : (f : Field) (b : Bool) → (if b then Value (value f) else Not) ≡ Not → b ≡ false
+is-none f true e = cc
+is-none f false e = refl
+
+-- the fields after the tab at i
+module _ (line : List ℕ) (i a e : ℕ) (h : i < length line) (p : a ≡ i + 1) (q : e ≡ a + span tab (drop a line)) where
+  pub one-argument : (args : List ℕ) (n v : ℕ) → n < 8 → length args ≡ 8 → Value v ≡ decimal-of (take (e - a) (drop a line))
+      → arguments-from (take (n + 1) (set args n v)) (rest tab (drop e line)) ≡ arguments-from (take n args) (rest tab (drop i line))
+  unfolding arguments-from decimal-of
+  one-argument args n v few long d =
+      let w = is-value (take (e - a) (drop a line)) (is-decimal (take (e - a) (drop a line))) v (sym d) in
+      let k : length (take n args) < 8 = omega (arith, length-take n args) in
+      rw (next-piece tab line i a e h p q) (simp (lt-leb 8 (length (take n args)) k, w .0, w .1) (rw (add-one, take-suc-set args n v (omega arith))))
+
+  pub no-argument : (args : List ℕ) (n : ℕ) → n < 8 → length args ≡ 8 → Not ≡ decimal-of (take (e - a) (drop a line)) → arguments-from (take n args) (rest tab (drop i line)) ≡ none
+  unfolding arguments-from decimal-of
+  no-argument args n few long d =
+      let w = is-none (take (e - a) (drop a line)) (is-decimal (take (e - a) (drop a line))) (sym d) in
+      let k : length (take n args) < 8 = omega (arith, length-take n args) in
+      rw (next-piece tab line i a e h p q) (simp (lt-leb 8 (length (take n args)) k, w))
+
+pub too-many : (line : List ℕ) (i n : ℕ) (args : List ℕ) → i < length line → 8 ≤ n → n ≤ 8 → length args ≡ 8 → arguments-from (take n args) (rest tab (drop i line)) ≡ none
+unfolding arguments-from
+too-many line i n args h many few long =
+    let k : 8 ≤ length (take n args) = omega (arith, length-take n args) in
+    rw (next-piece tab line i (i + 1) _ h refl refl) (simp (le-leb 8 (length (take n args)) k))
+
+pub no-more : (line : List ℕ) (i : ℕ) (vs : List ℕ) → length line ≤ i → arguments-from vs (rest tab (drop i line)) ≡ some vs
+unfolding arguments-from
+no-more line i vs h = rw (no-piece tab line i h)
+
+-- what the struct then says
+pub told-none : (x : Option (List ℕ)) (limit text : ℕ) (r : Asked) → x ≡ none → r .formed ≡ false → Told x limit text r
+unfolding Told
+told-none x limit text r e h = subst (λ y. Told y limit text r) (sym e) h
+
+pub told-some : (x : Option (List ℕ)) (limit text : ℕ) (vs : List ℕ) (r : Asked) → x ≡ some vs
+    → (r .formed ≡ true) × (r .limit ≡ limit) × (r .text ≡ text) × (take (r .count) (r .args) ≡ vs) × (r .count ≤ 8) → Told x limit text r
+unfolding Told
+told-some x limit text vs r e h = subst (λ y. Told y limit text r) (sym e) h
+
+-- The first field of a line: it is no decimal, or it is the limit.
+pub line-none : (line : List ℕ) (e text : ℕ) (r : Asked) → e ≡ 0 + span tab (drop 0 line) → Not ≡ decimal-of (take (e - 0) (drop 0 line)) → r .formed ≡ false → Line (pieces tab line) text r
+unfolding Line decimal-of Told
+line-none line e text r q d h =
+    let k : e ≡ span tab line = omega arith in
+    let k′ : e - 0 ≡ span tab line = omega arith in
+    let w = is-none (take (span tab line) line) (is-decimal (take (span tab line) line)) (sym (rw k′ at d)) in
+    rw first-piece (simp w h)
+
+pub line-some : (line : List ℕ) (e text v : ℕ) (r : Asked) → e ≡ 0 + span tab (drop 0 line) → Value v ≡ decimal-of (take (e - 0) (drop 0 line)) → Told (arguments-from [] (rest tab (drop e line))) v text r
+    → Line (pieces tab line) text r
+unfolding Line decimal-of
+line-some line e text v r q d h =
+    let k : e ≡ span tab line = omega arith in
+    let k′ : e - 0 ≡ span tab line = omega arith in
+    let w = is-value (take (span tab line) line) (is-decimal (take (span tab line) line)) v (sym (rw k′ at d)) in
+    rw first-piece (simp (w .0, w .1) (rw k at h))
+
+-- All arguments of a line at once.
+and-false : (b : Bool) → (b && false) ≡ false
+and-false true = refl
+and-false false = refl
+
+pub arguments-are : (vs : List ℕ) (fs : List Field) → length vs ≤ 8 → arguments-from vs fs ≡ (if leb (length vs + length fs) 8 && are-decimals fs then some (vs ++ map value fs) else none)
+unfolding arguments-from are-decimals
+arguments-are vs [] h = simp (append-nil, le-leb (length vs + 0) 8 (omega arith))
+arguments-are vs (f ∷ fs) h = by (leb 8 (length vs)) refl (is-decimal f) refl (λ k. arguments-are (vs ++ (value f ∷ [])) fs k)
+  where
+    by : (b : Bool) → leb 8 (length vs) ≡ b → (d : Bool) → is-decimal f ≡ d
+        → (length (vs ++ (value f ∷ [])) ≤ 8 → arguments-from (vs ++ (value f ∷ [])) fs ≡ (if leb (length (vs ++ (value f ∷ [])) + length fs) 8 && are-decimals fs then some ((vs ++ (value f ∷ [])) ++ map value fs) else none))
+        → (if leb 8 (length vs) then none else if is-decimal f then arguments-from (vs ++ (value f ∷ [])) fs else none)
+        ≡ (if leb (length vs + suc (length fs)) 8 && (is-decimal f && are-decimals fs) then some (vs ++ (value f ∷ map value fs)) else none)
+    by true e d k ih = let m = leb-true 8 (length vs) e in simp (e, lt-leb (length vs + suc (length fs)) 8 (omega arith))
+    by false e false k ih = simp (e, k, and-false)
+    by false e true k ih =
+        let m = leb-false 8 (length vs) e in
+        let n : length (vs ++ (value f ∷ [])) ≡ length vs + 1 = length-append vs (value f ∷ []) in
+        let z : length (vs ++ (value f ∷ [])) + length fs ≡ length vs + suc (length fs) = omega arith in
+        simp (e, k) (ih (omega arith) ∙ simp append-assoc (ap {B = Option (List ℕ)} (λ l. if leb l 8 && are-decimals fs then some (vs ++ (value f ∷ map value fs)) else none) z))
+
+-- A line that ends with the input is malformed, and so is one that is too long.
+pub unended : (input : List ℕ) (e : ℕ) (r : Asked) → e ≡ 0 + span line-end (drop 0 input) → length input ≤ e → r .formed ≡ false → Asks input (order-of input) r
+unfolding order-of ordered Asks
+unended input e r q h f =
+    let k : length input ≤ span line-end input = omega arith in
+    rw (first-piece line-end input, no-piece line-end input (span line-end input) k) f
+
+-- A line that is ended, and another piece after it.
+two-pieces : (input : List ℕ) (e : ℕ) → e ≡ 0 + span line-end (drop 0 input) → e < length input → (q : Field) × (ps : List Field) × (pieces line-end input ≡ take e input ∷ q ∷ ps)
+two-pieces input e p h =
+    let k : span line-end input ≡ e = omega arith in
+    let z = e + 1 + span line-end (drop (e + 1) input) in (
+      take (z - (e + 1)) (drop (e + 1) input),
+      rest line-end (drop z input),
+      first-piece line-end input ∙ rw k (ap (λ l. take e input ∷ l) (next-piece line-end input e (e + 1) z h refl refl)),
+    )
+
+long-line : (input p q : List ℕ) (ps : List Field) (r : Asked) → 128 < length p → r .formed ≡ false → Asks input (ordered (p ∷ q ∷ ps) input) r
+unfolding ordered is-first-line Asks
+long-line input p q ps r h f = simp (lt-leb (length p) 128 h) f
+
+pub too-long : (input : List ℕ) (e : ℕ) (r : Asked) → e ≡ 0 + span line-end (drop 0 input) → e < length input → 128 < e → r .formed ≡ false → Asks input (order-of input) r
+unfolding order-of
+too-long input e r p h l f =
+    let t = two-pieces input e p h in
+    rw (t .2) (long-line input (take e input) (t .0) (t .1) r (omega (arith, length-take e input)) f)
+
+-- What the fields of an ended line ask for.
+asked : (input p : List ℕ) (r : Asked) (f : Field) (fs : List Field) → Line (f ∷ fs) (length p + 1) r → length p + 1 ≤ length input
+    → Asks input (if leb (length (f ∷ fs)) 9 && are-decimals (f ∷ fs) then limit-and-arguments (f ∷ fs) (drop (length p + 1) input) else malformed) r
+unfolding Line Told Asks limit-and-arguments are-decimals
+asked input p r f fs h k = rw (leb·suc-suc (length fs) 8) (by (is-decimal f) (leb (length fs) 8) (are-decimals fs) (simp (arguments-are [] fs (omega arith), zero-add) at h))
+  where
+    by : (d l a : Bool) → Told (if d then (if l && a then some (map value fs) else none) else none) (value f) (length p + 1) r
+        → Asks input (if l && (d && a) then order (value f) (map value fs) (drop (length p + 1) input) else malformed) r
+    by true true true h = (h .0, h .1, h .3, h .4, ap (λ t. drop t input) (h .2), omega (arith, h .2))
+    by true true false h = h
+    by true false true h = h
+    by true false false h = h
+    by false true true h = h
+    by false true false h = h
+    by false false true h = h
+    by false false false h = h
+
+short-line : (input p q : List ℕ) (ps : List Field) (r : Asked) → length p ≤ 128 → length p + 1 ≤ length input → Line (pieces tab p) (length p + 1) r → Asks input (ordered (p ∷ q ∷ ps) input) r
+unfolding ordered is-first-line
+short-line input p q ps r h k l =
+    simp (le-leb (length p) 128 h) (rw first-piece (asked input p r (take (span tab p) p) (rest tab (drop (span tab p) p)) (rw first-piece at l) k))
+
+pub well-ended : (input : List ℕ) (e : ℕ) (r : Asked) → e ≡ 0 + span line-end (drop 0 input) → e < length input → e ≤ 128 → Line (pieces tab (take (e - 0) (drop 0 input))) (e + 1) r
+    → Asks input (order-of input) r
+unfolding order-of
+well-ended input e r p h l f =
+    let t = two-pieces input e p h in
+    let n : length (take e input) ≡ e = length-take e input ∙ omega arith in
+    rw (t .2) (short-line input (take e input) (t .0) (t .1) r (omega arith) (omega arith) (rw n (rw sub-zero at f)))
