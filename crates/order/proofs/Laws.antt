@@ -108,41 +108,36 @@ arguments-are vs (f ∷ fs) h = by (leb 8 (length vs)) refl (is-decimal f) refl 
         let z : length (vs ++ (value f ∷ [])) + length fs ≡ length vs + suc (length fs) = omega arith in
         simp (e, k) (ih (omega arith) ∙ simp append-assoc (ap {B = Option (List ℕ)} (λ l. if leb l 8 && are-decimals fs then some (vs ++ (value f ∷ map value fs)) else none) z))
 
--- A line that ends with the input is malformed, and so is one that is too long.
+-- What is asked where the first line is not ended, and where it ends at e.
+pub order-unended : (input : List ℕ) → length input ≤ span line-end input → order-of input ≡ malformed
+unfolding order-of ordered
+order-unended input h = rw (first-piece line-end input, no-piece line-end input (span line-end input) h)
+
+pub order-ended : (input : List ℕ) (e : ℕ) → span line-end input ≡ e → e < length input
+    → order-of input ≡ (if is-first-line (take e input) then limit-and-arguments (pieces tab (take e input)) (drop (e + 1) input) else malformed)
+unfolding order-of ordered
+order-ended input e k h =
+    let z = e + 1 + span line-end (drop (e + 1) input) in
+    let n : length (take e input) ≡ e = length-take e input ∙ omega arith in
+    rw (first-piece line-end input, k, next-piece line-end input e (e + 1) z h refl refl, n)
+
 pub unended : (input : List ℕ) (e : ℕ) (r : Asked) → e ≡ 0 + span line-end (drop 0 input) → length input ≤ e → r .formed ≡ false → Asks input (order-of input) r
-unfolding order-of ordered Asks
-unended input e r q h f =
-    let k : length input ≤ span line-end input = omega arith in
-    rw (first-piece line-end input, no-piece line-end input (span line-end input) k) f
-
--- A line that is ended, and another piece after it.
-two-pieces : (input : List ℕ) (e : ℕ) → e ≡ 0 + span line-end (drop 0 input) → e < length input → (q : Field) × (ps : List Field) × (pieces line-end input ≡ take e input ∷ q ∷ ps)
-two-pieces input e p h =
-    let k : span line-end input ≡ e = omega arith in
-    let z = e + 1 + span line-end (drop (e + 1) input) in (
-      take (z - (e + 1)) (drop (e + 1) input),
-      rest line-end (drop z input),
-      first-piece line-end input ∙ rw k (ap (λ l. take e input ∷ l) (next-piece line-end input e (e + 1) z h refl refl)),
-    )
-
-long-line : (input p q : List ℕ) (ps : List Field) (r : Asked) → 128 < length p → r .formed ≡ false → Asks input (ordered (p ∷ q ∷ ps) input) r
-unfolding ordered is-first-line Asks
-long-line input p q ps r h f = simp (lt-leb (length p) 128 h) f
+unfolding Asks
+unended input e r q h f = rw (order-unended input (omega arith)) f
 
 pub too-long : (input : List ℕ) (e : ℕ) (r : Asked) → e ≡ 0 + span line-end (drop 0 input) → e < length input → 128 < e → r .formed ≡ false → Asks input (order-of input) r
-unfolding order-of
+unfolding Asks is-first-line
 too-long input e r p h l f =
-    let t = two-pieces input e p h in
-    rw (t .2) (long-line input (take e input) (t .0) (t .1) r (omega (arith, length-take e input)) f)
+    rw (order-ended input e (omega arith) h) (simp (lt-leb (length (take e input)) 128 (omega (arith, length-take e input))) f)
 
 -- What the fields of an ended line ask for.
-asked : (input p : List ℕ) (r : Asked) (f : Field) (fs : List Field) → Line (f ∷ fs) (length p + 1) r → length p + 1 ≤ length input
-    → Asks input (if leb (length (f ∷ fs)) 9 && are-decimals (f ∷ fs) then limit-and-arguments (f ∷ fs) (drop (length p + 1) input) else malformed) r
+asked : (input : List ℕ) (k : ℕ) (r : Asked) (f : Field) (fs : List Field) → Line (f ∷ fs) k r → k ≤ length input
+    → Asks input (if leb (length (f ∷ fs)) 9 && are-decimals (f ∷ fs) then limit-and-arguments (f ∷ fs) (drop k input) else malformed) r
 unfolding Line Told Asks limit-and-arguments are-decimals
-asked input p r f fs h k = rw (leb·suc-suc (length fs) 8) (by (is-decimal f) (leb (length fs) 8) (are-decimals fs) (simp (arguments-are [] fs (omega arith), zero-add) at h))
+asked input k r f fs h in-it = rw (leb·suc-suc (length fs) 8) (by (is-decimal f) (leb (length fs) 8) (are-decimals fs) (simp (arguments-are [] fs (omega arith), zero-add) at h))
   where
-    by : (d l a : Bool) → Told (if d then (if l && a then some (map value fs) else none) else none) (value f) (length p + 1) r
-        → Asks input (if l && (d && a) then order (value f) (map value fs) (drop (length p + 1) input) else malformed) r
+    by : (d l a : Bool) → Told (if d then (if l && a then some (map value fs) else none) else none) (value f) k r
+        → Asks input (if l && (d && a) then order (value f) (map value fs) (drop k input) else malformed) r
     by true true true h = (h .0, h .1, h .3, h .4, ap (λ t. drop t input) (h .2), omega (arith, h .2))
     by true true false h = h
     by true false true h = h
@@ -152,15 +147,11 @@ asked input p r f fs h k = rw (leb·suc-suc (length fs) 8) (by (is-decimal f) (l
     by false false true h = h
     by false false false h = h
 
-short-line : (input p q : List ℕ) (ps : List Field) (r : Asked) → length p ≤ 128 → length p + 1 ≤ length input → Line (pieces tab p) (length p + 1) r → Asks input (ordered (p ∷ q ∷ ps) input) r
-unfolding ordered is-first-line
-short-line input p q ps r h k l =
-    simp (le-leb (length p) 128 h) (rw first-piece (asked input p r (take (span tab p) p) (rest tab (drop (span tab p) p)) (rw first-piece at l) k))
-
 pub well-ended : (input : List ℕ) (e : ℕ) (r : Asked) → e ≡ 0 + span line-end (drop 0 input) → e < length input → e ≤ 128 → Line (pieces tab (take (e - 0) (drop 0 input))) (e + 1) r
     → Asks input (order-of input) r
-unfolding order-of
-well-ended input e r p h l f =
-    let t = two-pieces input e p h in
-    let n : length (take e input) ≡ e = length-take e input ∙ omega arith in
-    rw (t .2) (short-line input (take e input) (t .0) (t .1) r (omega arith) (omega arith) (rw n (rw sub-zero at f)))
+unfolding is-first-line
+well-ended input e r q h l f =
+    let p = take e input in
+    let fits : length p ≤ 128 = omega (arith, length-take e input) in
+    rw (order-ended input e (omega arith) h)
+    (simp (le-leb (length p) 128 fits) (rw (first-piece tab p) (asked input (e + 1) r (take (span tab p) p) (rest tab (drop (span tab p) p)) (rw (first-piece tab p) at (rw sub-zero at f)) (omega arith))))
