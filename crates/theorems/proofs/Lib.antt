@@ -1,0 +1,4 @@
+pub mod Splitting
+pub mod Trees
+pub mod Bound
+pub mod Sorts

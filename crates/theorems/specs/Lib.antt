@@ -1,0 +1,2 @@
+pub mod Unlimited
+pub mod Theorems

@@ -1,0 +1,117 @@
+-- The machine without limits: document 000's machine, which goes on for as long as there is a next step. Its state after n steps, what it made
+-- on the way, and how high its stacks stand. Assumes nothing.
+use mathlib.Core.Bool.{Bool, true, false}
+use mathlib.Core.Option.{Option, none, some}
+use mathlib.Core.List.{List, [], _∷_}
+use Prim.Native.Nat.{ℕ, zero, suc, _+_}
+use lib.ListN.{length, getElem?}
+use Rattle.meaning.specs.Terms.{Program}
+use Rattle.meaning.specs.Code.{Instruction, EVAL, EXEC, SELECT, CALL, RET, entrance, initial, translation}
+use Rattle.meaning.specs.Machine.{Slot, value, waiting, Environment, Place, stop, at, State, state, Next, next, no-step, obey, rewrites, start, top}
+
+-- One step; a machine that has stopped makes none.
+unfoldable pub step : (ℕ → Option Instruction) → State → Next
+step code (state stop rs ds es) = no-step
+step code (state (at a) rs ds es) = obey (code a) rs ds es
+
+unfoldable pub from-next : {A : Type 0} → Next → A → (State → A) → A
+from-next no-step otherwise go-on = otherwise
+from-next (next s) otherwise go-on = go-on s
+
+-- The state n steps after s, where as many can be made.
+unfoldable pub state-after : (ℕ → Option Instruction) → ℕ → State → Next
+state-after code zero s = next s
+state-after code (suc n) s = from-next (step code s) no-step (state-after code n)
+
+-- How often something is done in n steps from s; `done` says it of one step, from the state before it.
+unfoldable pub done-in : (ℕ → Option Instruction) → (State → ℕ) → ℕ → State → ℕ
+done-in code done zero s = 0
+done-in code done (suc n) s = from-next (step code s) 0 λ s′. done s + done-in code done n s′
+
+-- What the next step does.
+
+unfoldable pub instruction-at : (ℕ → Option Instruction) → State → Option Instruction
+instruction-at code (state stop rs ds es) = none
+instruction-at code (state (at a) rs ds es) = code a
+
+unfoldable pub rewrites-at : (ℕ → Option Instruction) → State → ℕ
+rewrites-at code s = rewrites (instruction-at code s)
+
+unfoldable pub calls : Option Instruction → ℕ
+calls none = 0
+calls (some (EVAL i b)) = 0
+calls (some (EXEC o b)) = 0
+calls (some (SELECT x y)) = 0
+calls (some (CALL a k ws b)) = 1
+calls (some RET) = 0
+
+unfoldable pub returns : Option Instruction → ℕ
+returns none = 0
+returns (some (EVAL i b)) = 0
+returns (some (EXEC o b)) = 0
+returns (some (SELECT x y)) = 0
+returns (some (CALL a k ws b)) = 0
+returns (some RET) = 1
+
+-- A waiting lookup is an EVAL that finds a waiting argument in the first frame of the current environment.
+unfoldable pub is-waiting : Option Slot → ℕ
+is-waiting none = 0
+is-waiting (some (value v)) = 0
+is-waiting (some (waiting a)) = 1
+
+unfoldable pub looked-at : ℕ → List Environment → Option Slot
+looked-at i [] = none
+looked-at i ([] ∷ es) = none
+looked-at i ((f ∷ e) ∷ es) = getElem? f i
+
+unfoldable pub waiting-lookups : Option Instruction → List Environment → ℕ
+waiting-lookups none es = 0
+waiting-lookups (some (EVAL i b)) es = is-waiting (looked-at i es)
+waiting-lookups (some (EXEC o b)) es = 0
+waiting-lookups (some (SELECT x y)) es = 0
+waiting-lookups (some (CALL a k ws b)) es = 0
+waiting-lookups (some RET) es = 0
+
+-- What a state holds.
+
+unfoldable pub has-stopped : State → Bool
+has-stopped (state stop rs ds es) = true
+has-stopped (state (at a) rs ds es) = false
+
+unfoldable pub value-of : State → ℕ
+value-of (state p rs ds es) = top ds
+
+unfoldable pub return-height : State → ℕ
+return-height (state p rs ds es) = length rs
+
+unfoldable pub data-height : State → ℕ
+data-height (state p rs ds es) = length ds
+
+unfoldable pub environment-height : State → ℕ
+environment-height (state p rs ds es) = length es
+
+unfoldable pub environments : State → List Environment
+environments (state p rs ds es) = es
+
+-- The same for a program at its argument values, from the start.
+
+unfoldable pub code-of : Program → ℕ → Option Instruction
+code-of P = getElem? (translation P)
+
+unfoldable pub start-of : Program → List ℕ → State
+start-of P args = start (entrance (initial P) 0) args
+
+abbrev pub machine-after : Program → List ℕ → ℕ → Next
+machine-after P args n = state-after (code-of P) n (start-of P args)
+
+abbrev pub rewrites-after : Program → List ℕ → ℕ → ℕ
+rewrites-after P args n = done-in (code-of P) (rewrites-at (code-of P)) n (start-of P args)
+
+abbrev pub calls-after : Program → List ℕ → ℕ → ℕ
+calls-after P args n = done-in (code-of P) (λ s. calls (instruction-at (code-of P) s)) n (start-of P args)
+
+abbrev pub returns-after : Program → List ℕ → ℕ → ℕ
+returns-after P args n = done-in (code-of P) (λ s. returns (instruction-at (code-of P) s)) n (start-of P args)
+
+abbrev pub waiting-lookups-after : Program → List ℕ → ℕ → ℕ
+waiting-lookups-after P args n = done-in (code-of P) (λ s. waiting-lookups (instruction-at (code-of P) s) (environments s)) n (start-of P args)
