@@ -5,3 +5,5 @@ pub mod Sorts
 pub mod Agreement
 pub mod Courses
 pub mod Holding
+pub mod ToMachine
+pub mod FromMachine
