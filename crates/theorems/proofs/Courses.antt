@@ -78,6 +78,9 @@ module _ {code : ℕ → Option Instruction} where
       apart : {A : Type 0} {x : ℕ} {rs rs′ : List Place} {ds ds′ : List ℕ} {es es′ : List Environment} → state (at x) rs ds es ≡ state stop rs′ ds′ es′ → A
       apart e = clash (cc)
 
+pub next-same : {s s′ : State} → next s ≡ next s′ → s ≡ s′
+next-same e = cc
+
 -- Courses and what the definitions compute.
 module _ (code : ℕ → Option Instruction) where
   pub after-of : {s s′ : State} {n r : ℕ} → Goes code s n r s′ → (state-after code n s ≡ next s′) × (done-in code (rewrites-at code) n s ≡ r)
@@ -89,9 +92,6 @@ module _ (code : ℕ → Option Instruction) where
         ap (λ x. from-next x no-step (state-after code n)) e ∙ p .0,
         ap (λ x. from-next x 0 (λ s′. rewrites (code a) + done-in code (rewrites-at code) n s′)) e ∙ omega (arith, p .1, ap rewrites h),
       )
-
-  next-same : {s s′ : State} → next s ≡ next s′ → s ≡ s′
-  next-same e = cc
 
   pub course-of : (n : ℕ) (s : State) {s′ : State} → state-after code n s ≡ next s′ → Goes code s n (done-in code (rewrites-at code) n s) s′
   unfolding state-after done-in step from-next rewrites-at instruction-at

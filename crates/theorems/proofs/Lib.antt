@@ -7,3 +7,4 @@ pub mod Courses
 pub mod Holding
 pub mod ToMachine
 pub mod FromMachine
+pub mod Heights

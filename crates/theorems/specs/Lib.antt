@@ -1,2 +1,3 @@
 pub mod Unlimited
+pub mod Early
 pub mod Theorems

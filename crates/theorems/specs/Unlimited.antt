@@ -45,6 +45,9 @@ calls (some (SELECT x y)) = 0
 calls (some (CALL a k ws b)) = 1
 calls (some RET) = 0
 
+unfoldable pub calls-at : (ℕ → Option Instruction) → State → ℕ
+calls-at code s = calls (instruction-at code s)
+
 unfoldable pub returns : Option Instruction → ℕ
 returns none = 0
 returns (some (EVAL i b)) = 0
@@ -52,6 +55,9 @@ returns (some (EXEC o b)) = 0
 returns (some (SELECT x y)) = 0
 returns (some (CALL a k ws b)) = 0
 returns (some RET) = 1
+
+unfoldable pub returns-at : (ℕ → Option Instruction) → State → ℕ
+returns-at code s = returns (instruction-at code s)
 
 -- A waiting lookup is an EVAL that finds a waiting argument in the first frame of the current environment.
 unfoldable pub is-waiting : Option Slot → ℕ
@@ -72,6 +78,12 @@ waiting-lookups (some (SELECT x y)) es = 0
 waiting-lookups (some (CALL a k ws b)) es = 0
 waiting-lookups (some RET) es = 0
 
+unfoldable pub environments : State → List Environment
+environments (state p rs ds es) = es
+
+unfoldable pub waiting-lookups-at : (ℕ → Option Instruction) → State → ℕ
+waiting-lookups-at code s = waiting-lookups (instruction-at code s) (environments s)
+
 -- What a state holds.
 
 unfoldable pub has-stopped : State → Bool
@@ -90,9 +102,6 @@ data-height (state p rs ds es) = length ds
 unfoldable pub environment-height : State → ℕ
 environment-height (state p rs ds es) = length es
 
-unfoldable pub environments : State → List Environment
-environments (state p rs ds es) = es
-
 -- The same for a program at its argument values, from the start.
 
 unfoldable pub code-of : Program → ℕ → Option Instruction
@@ -108,10 +117,10 @@ abbrev pub rewrites-after : Program → List ℕ → ℕ → ℕ
 rewrites-after P args n = done-in (code-of P) (rewrites-at (code-of P)) n (start-of P args)
 
 abbrev pub calls-after : Program → List ℕ → ℕ → ℕ
-calls-after P args n = done-in (code-of P) (λ s. calls (instruction-at (code-of P) s)) n (start-of P args)
+calls-after P args n = done-in (code-of P) (calls-at (code-of P)) n (start-of P args)
 
 abbrev pub returns-after : Program → List ℕ → ℕ → ℕ
-returns-after P args n = done-in (code-of P) (λ s. returns (instruction-at (code-of P) s)) n (start-of P args)
+returns-after P args n = done-in (code-of P) (returns-at (code-of P)) n (start-of P args)
 
 abbrev pub waiting-lookups-after : Program → List ℕ → ℕ → ℕ
-waiting-lookups-after P args n = done-in (code-of P) (λ s. waiting-lookups (instruction-at (code-of P) s) (environments s)) n (start-of P args)
+waiting-lookups-after P args n = done-in (code-of P) (waiting-lookups-at (code-of P)) n (start-of P args)
