@@ -8,3 +8,4 @@ pub mod Holding
 pub mod ToMachine
 pub mod FromMachine
 pub mod Heights
+pub mod Limits
