@@ -9,3 +9,4 @@ pub mod ToMachine
 pub mod FromMachine
 pub mod Heights
 pub mod Limits
+pub mod Acceptance
