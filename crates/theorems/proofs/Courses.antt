@@ -67,16 +67,37 @@ module _ {code : ℕ → Option Instruction} where
   has-step stay l = absurd (omega arith)
   has-step {rs = rs} {ds = ds} {es = es} (go {s = s} h o f) l = (s, ap (λ x. obey x rs ds es) h ∙ o)
 
-  pub has-step-before-stop : {s : State} {n m r q a : ℕ} {rs rs′ : List Place} {ds ds′ : List ℕ} {es es′ : List Environment} → Goes code s n r (state stop rs ds es)
-      → Goes code s m q (state (at a) rs′ ds′ es′) → (s′ : State) × (obey (code a) rs′ ds′ es′ ≡ next s′)
-  has-step-before-stop {n = n} {m = m} f g =
+  pub before-stop : {s : State} {n m r q a : ℕ} {rs rs′ : List Place} {ds ds′ : List ℕ} {es es′ : List Environment} → Goes code s n r (state stop rs ds es)
+      → Goes code s m q (state (at a) rs′ ds′ es′) → m < n
+  before-stop {n = n} {m = m} f g =
       elim (decLe n m) [
         | yes l ↦ (let p = begins f g l in let z = from-stop (p .4) in apart (z .2))
-        | no l ↦ (let p = begins g f (omega arith) in has-step (p .4) (omega (arith, p .2)))
+        | no l ↦ omega arith
       ]
     where
       apart : {A : Type 0} {x : ℕ} {rs rs′ : List Place} {ds ds′ : List ℕ} {es es′ : List Environment} → state (at x) rs ds es ≡ state stop rs′ ds′ es′ → A
       apart e = clash (cc)
+
+  pub has-step-before-stop : {s : State} {n m r q a : ℕ} {rs rs′ : List Place} {ds ds′ : List ℕ} {es es′ : List Environment} → Goes code s n r (state stop rs ds es)
+      → Goes code s m q (state (at a) rs′ ds′ es′) → (s′ : State) × (obey (code a) rs′ ds′ es′ ≡ next s′)
+  has-step-before-stop f g =
+      let l = before-stop f g in
+      let p = begins g f (omega arith) in
+      has-step (p .4) (omega (arith, p .2))
+
+-- The last step of a course.
+module _ {code : ℕ → Option Instruction} where
+  no-steps : {s s′ : State} {m r : ℕ} → Goes code s m r s′ → m ≡ 0 → s ≡ s′
+  no-steps stay e = refl
+  no-steps (go h o f) e = absurd (omega arith)
+
+  pub last-step : {s s″ : State} {m r : ℕ} → Goes code s m r s″ → (n : ℕ) → m ≡ suc n
+      → (a : ℕ) × (rs : List Place) × (ds : List ℕ) × (es : List Environment) × (q : ℕ) × Goes code s n q (state (at a) rs ds es) × (obey (code a) rs ds es ≡ next s″)
+  last-step stay n e = absurd (omega arith)
+  last-step (go {a = a} {rs = rs} {ds = ds} {es = es} h o f) zero e =
+      (a, rs, ds, es, 0, stay, ap (λ x. obey x rs ds es) h ∙ o ∙ ap next (no-steps f (omega arith)))
+  last-step (go h o f) (suc n) e = let p = last-step f n (omega arith) in
+      (p .0, p .1, p .2, p .3, _, go {s′ = state (at (p .0)) (p .1) (p .2) (p .3)} h o (p .5), p .6)
 
 pub next-same : {s s′ : State} → next s ≡ next s′ → s ≡ s′
 next-same e = cc

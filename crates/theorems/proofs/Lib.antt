@@ -10,3 +10,5 @@ pub mod FromMachine
 pub mod Heights
 pub mod Limits
 pub mod Acceptance
+pub mod Wholes
+pub mod Endings
