@@ -12,3 +12,6 @@ pub mod Limits
 pub mod Acceptance
 pub mod Wholes
 pub mod Endings
+pub mod Refusals
+pub mod Headlines
+pub mod Early
