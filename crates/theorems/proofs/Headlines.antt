@@ -74,12 +74,11 @@ unfolding start-of start return-height environment-height
 height P args n s e = let h = heights-after (code-of P) n (start-of P args) e in (omega (arith, h .0), omega (arith, h .1))
 
 pub one-outcome : OneOutcome
-one-outcome =
-    (
-      λ text heads a b x y p q. (p .answered ∙ sym (q .answered), p .written ∙ sym (q .written)),
-      λ text code a b x y p q. (p .answered ∙ sym (q .answered), p .written ∙ sym (q .written)),
-      λ text args limit code work a b x y z w p q. (p .answered ∙ sym (q .answered), p .written ∙ sym (q .written), p .cleared ∙ sym (q .cleared)),
-    )
+one-outcome = (
+  λ text heads a b x y p q. (p .answered ∙ sym (q .answered), p .written ∙ sym (q .written)),
+  λ text code a b x y p q. (p .answered ∙ sym (q .answered), p .written ∙ sym (q .written)),
+  λ text args limit code work a b x y z w p q. (p .answered ∙ sym (q .answered), p .written ∙ sym (q .written), p .cleared ∙ sym (q .cleared)),
+)
 
 -- From the bytes of the text.
 
@@ -91,31 +90,30 @@ run-halts-right text args limit code work e =
 
 pub run-limits-are-the-machines : RunLimitsAreTheMachines
 unfolding no
-run-limits-are-the-machines text args limit code work steps rewrites =
-    (
-      (
-        λ e.
+run-limits-are-the-machines text args limit code work steps rewrites = (
+  (
+    λ e.
         let p = answer-runs text args limit code work FUEL (inr (omega arith)) (e .0) in
         (p .0, p .1, subst₂ (MeetsStepLimit (p .0) args limit) (e .1) (e .2) (fuel-place (p .0) args limit (p .2))),
-        λ m.
+    λ m.
         let a = admitted-answer limit (m .1) (place-fuel (m .0) args limit (m .2)) in
         (a .0, a .2, a .3),
-      ),
-      (
-        λ e.
+  ),
+  (
+    λ e.
         let p = answer-runs text args limit code work DEEP (inr (omega arith)) (e .0) in
         (p .0, p .1, subst₂ (MeetsHeightLimit (p .0) args limit) (e .1) (e .2) (deep-place (p .0) args limit (p .2))),
-        λ m.
+    λ m.
         let a = admitted-answer limit (m .1) (place-deep (m .0) args limit (m .2)) in
         (a .0, a .2, a .3),
-      ),
-      λ v. (
-        λ e.
+  ),
+  λ v. (
+    λ e.
         let p = answer-runs text args limit code work HALT (inl (omega arith)) (e .0) in
         (p .0, p .1, subst₃ (StopsInLimits (p .0) args limit) (e .1) (e .2) (e .3) (halt-place (p .0) args limit (p .2))),
-        λ m. admitted-answer limit (m .1) (place-halt (m .0) args limit (m .2)),
-      ),
-    )
+    λ m. admitted-answer limit (m .1) (place-halt (m .0) args limit (m .2)),
+  ),
+)
 
 pub run-in-time : RunInTime
 unfolding no
