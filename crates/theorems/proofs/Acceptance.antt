@@ -12,11 +12,13 @@ use borrow.Author.Tests.{leb-true}
 use Rattle.meaning.specs.Basics.{if_then_else_, between, byte, all}
 use Rattle.meaning.specs.Arithmetic.{Sort, number, yes-no, Op, constant, add, sub, mul, div, rem, eq, lt, and, or, neg, domain, range}
 use Rattle.meaning.specs.Numbers.{most-arguments, most-depth}
-use Rattle.meaning.specs.Text.{Verdict, fine, refused, _>>=_, _>>_, Field, tab, line-end, pieces, is-count, are-sorts, value, value-from, forms, is-name, is-result, is-visible, first-wrong, wrong-field, judge-line, judge-lines, judge-shape, Line, sort-of, line-of, all-but-last, lines, judge-length, judge-counts, judge-names, is-sort}
+use Rattle.meaning.specs.Text.{Verdict, fine, refused, _>>=_, _>>_, Field, tab, line-end, pieces, is-count, are-sorts, value, value-from, forms, is-name, is-result, is-visible, first-wrong, wrong-field, judge-line, judge-lines, judge-shape, Line, sort-of, line-of, all-but-last, lines, judge-length, judge-counts, judge-names, same as same-field}
 use Rattle.meaning.specs.Terms.{Term, arg, op, cond, call, Terms, nil, cons, Function, Program, Symbol, argument, operation, condition, function, unknown, Word, vocabulary, is-decimal, named, spelt-in, symbol, Takes, takes, cannot, argument-takes, call-takes, takes-of, same-sort, if-sort, Read, got, fault, first-terms, other-terms, strict-of, condition-of, applied, with-arguments, and-more, then-more, read-row, read-taken, read-term, nothing-after, read-body, function-of, read-bodies, other-sort}
 use Rattle.meaning.specs.Check.{check}
 use Rattle.meaning.specs.Code.{own, initial}
 use Rattle.meaning.specs.Answers.{fits, all-fit, fitting}
+use Rattle.accepted.specs.Accepted.{Sound, Accepted}
+use Rattle.accepted.proofs.Accepted.{accepted, every-there}
 use Rattle.theorems.proofs.Splitting.{clash}
 use Rattle.theorems.proofs.Sorts.{of-sort, of-sorts, constant-sorted, sorted, row-sorted, Sorted}
 
@@ -63,12 +65,12 @@ either-right false y z h k = k
 spelt-right : (ws : List Word) (f : Field) (y : Symbol) → words-right ws → symbol-right y → symbol-right (spelt-in ws f y)
 unfolding spelt-in words-right
 spelt-right [] f y h k = k
-spelt-right (w ∷ ws) f y h k = either-right (Rattle.meaning.specs.Text.same f (w .spelt)) (w .means) (spelt-in ws f y) (h .0) (spelt-right ws f y (h .1) k)
+spelt-right (w ∷ ws) f y h k = either-right (same-field f (w .spelt)) (w .means) (spelt-in ws f y) (h .0) (spelt-right ws f y (h .1) k)
 
 named-right : (i : ℕ) (N : List Field) (f : Field) → symbol-right (named i N f)
 unfolding named symbol-right
 named-right i [] f = tt
-named-right i (n ∷ N) f = either-right (Rattle.meaning.specs.Text.same f n) (function i) (named (i + 1) N f) tt (named-right (i + 1) N f)
+named-right i (n ∷ N) f = either-right (same-field f n) (function i) (named (i + 1) N f) tt (named-right (i + 1) N f)
 
 vocabulary-right : words-right vocabulary
 unfolding words-right symbol-right constant-sorted of-sort
@@ -263,70 +265,6 @@ line-of-function {H} (one-body {h = h} {F = E} m t r) zero F e =
     (h, refl, subst (Matches h) same m, subst (λ (z : Function). reads-body H h ≡ got (z .body) []) same t)
 line-of-function (one-body m t r) (suc f) F e = line-of-function r f F e
 
--- The shape of a line: its strict count is at most 8 and at most the number of its sorts.
-
-abbrev Shaped : Line → Type 0
-Shaped h = (h .strict ≤ most-arguments) × (h .strict ≤ length (h .sorts))
-
-form-right : (k : ℕ) (form : Field → Bool) (more : List (Field → Bool)) (f : Field) (fs : List Field) → 1 ≤ k → first-wrong k (form ∷ more) (f ∷ fs) ≡ 0
-    → (form f ≡ true) × (first-wrong (k + 1) more fs ≡ 0)
-unfolding first-wrong
-form-right k form more f fs l e = of (form f) refl e
-  where
-    of : (b : Bool) → form f ≡ b → (if b then first-wrong (k + 1) more fs else k) ≡ 0 → (form f ≡ true) × (first-wrong (k + 1) more fs ≡ 0)
-    of true h z = (h, z)
-    of false h z = absurd (omega arith)
-
-count-most : (f : Field) → is-count f ≡ true → value f ≤ most-arguments
-unfolding is-count value-from
-count-most [] e = clash (cc)
-count-most (x ∷ []) e = let p = both-true (leb (byte "0") x) (leb x (byte "8")) e in omega (arith, leb-true x (byte "8") (p .1))
-count-most (x ∷ y ∷ ys) e = clash (cc)
-
-sorts-enough : (k : ℕ) (f : Field) → are-sorts k f ≡ true → k ≤ length f
-unfolding are-sorts
-sorts-enough k f e =
-    let p = both-true (between 1 most-arguments (length f)) (leb k (length f) && all is-sort f) e in
-    leb-true k (length f) (both-true (leb k (length f)) (all is-sort f) (p .1) .0)
-
-shaped : (fs : List Field) → wrong-field fs ≡ 0 → Shaped (line-of fs)
-unfolding wrong-field forms line-of first-wrong
-shaped [] e = absurd (omega arith)
-shaped (n ∷ []) e =
-    let p = form-right 1 is-name (is-count ∷ are-sorts (value []) ∷ is-result ∷ is-visible ∷ []) n [] (omega arith) e in
-    absurd (omega (arith, p .1))
-shaped (n ∷ c ∷ []) e =
-    let k = value c in
-    let p = form-right 1 is-name (is-count ∷ are-sorts k ∷ is-result ∷ is-visible ∷ []) n (c ∷ []) (omega arith) e in
-    let q = form-right 2 is-count (are-sorts k ∷ is-result ∷ is-visible ∷ []) c [] (omega arith) (p .1) in
-    absurd (omega (arith, q .1))
-shaped (n ∷ c ∷ s ∷ fs) e =
-    let k = value c in
-    let p = form-right 1 is-name (is-count ∷ are-sorts k ∷ is-result ∷ is-visible ∷ []) n (c ∷ s ∷ fs) (omega arith) e in
-    let q = form-right 2 is-count (are-sorts k ∷ is-result ∷ is-visible ∷ []) c (s ∷ fs) (omega arith) (p .1) in
-    let r = form-right 3 (are-sorts k) (is-result ∷ is-visible ∷ []) s fs (omega arith) (q .1) in
-    (count-most c (q .0), simp length-map (sorts-enough k s (r .0)))
-
-lines-shaped : (l : ℕ) (ps : List Field) → judge-lines l ps ≡ fine tt → (f : ℕ) (h : Line) → getElem? (map (λ p. line-of (pieces tab p)) (all-but-last ps)) f ≡ some h → Shaped h
-unfolding judge-lines all-but-last judge-line
-lines-shaped l [] e f h k = clash (cc)
-lines-shaped l ([] ∷ []) e f h k = clash (cc)
-lines-shaped l ((x ∷ p) ∷ []) e f h k = clash (cc)
-lines-shaped l (p ∷ q ∷ ps) e f h k = of (wrong-field (pieces tab p)) refl e f k (lines-shaped (l + 1) (q ∷ ps))
-  where
-    of : (n : ℕ) → wrong-field (pieces tab p) ≡ n → judge-line l n (judge-lines (l + 1) (q ∷ ps)) ≡ fine tt
-        → (f : ℕ) → getElem? (line-of (pieces tab p) ∷ map (λ p. line-of (pieces tab p)) (all-but-last (q ∷ ps))) f ≡ some h
-        → (judge-lines (l + 1) (q ∷ ps) ≡ fine tt → (f : ℕ) (h : Line) → getElem? (map (λ p. line-of (pieces tab p)) (all-but-last (q ∷ ps))) f ≡ some h → Shaped h)
-        → Shaped h
-    of zero w z zero k rec = let same : line-of (pieces tab p) ≡ h = cc in subst Shaped same (shaped (pieces tab p) w)
-    of zero w z (suc f) k rec = rec z f h k
-    of (suc n) w z f k rec = clash (cc)
-
-text-shaped : (text : List ℕ) → judge-shape text ≡ fine tt → (f : ℕ) (h : Line) → getElem? (lines text) f ≡ some h → Shaped h
-unfolding judge-shape lines
-text-shaped [] e f h k = clash (cc)
-text-shaped (x ∷ text) e f h k = lines-shaped 1 (pieces line-end (x ∷ text)) e f h k
-
 -- The initial term: the entry applied to its own arguments.
 
 sort-there : (S : List Sort) (i : ℕ) → i < length S → getElem? S i ≡ some (getD S i number)
@@ -373,31 +311,27 @@ pub record WellMade (P : Program) (args : List ℕ) : Type 0 where
   pub initial-is-sorted : sorted P (initial P) entry-sorts entry-result
   pub arguments-sorted : of-sorts entry-sorts args
 
-bodies-sorted : {H : List Line} {P : Program} → Bodies H H P → ((f : ℕ) (h : Line) → getElem? H f ≡ some h → Shaped h) → Sorted P
-bodies-sorted {H} {P} r lines-ok f F e =
+bodies-sorted : {H : List Line} {P : Program} → Bodies H H P → Accepted P → Sorted P
+bodies-sorted {H} {P} r A f F e =
     let p = line-of-function r f F e in
     let h = p .0 in
     let m = p .2 in
-    let t = term-reads-sorted P (h .sorts) H (all-match r) most-depth (h .result) (map (symbol (map (λ k. k .name) H)) (h .body)) (F .body) [] (body-is-right (map (λ k. k .name) H) (h .body)) (p .3) .0 in (
-      subst (λ n. n ≤ most-arguments) (sym (m .strict-match)) (lines-ok f h (p .1) .0),
+    let S = every-there (Sound P) P (A .sound) f F e in
+    let N = map (λ k. k .name) H in
+    let t = term-reads-sorted P (h .sorts) H (all-match r) most-depth (h .result) (map (symbol N) (h .body)) (F .body) [] (body-is-right N (h .body)) (p .3) .0 in (
+      omega (arith, S .few-strict, S .few-arguments),
       subst (λ S. sorted P (F .body) S (F .result)) (sym (m .sorts-match)) (subst (λ s. sorted P (F .body) (h .sorts) s) (sym (m .result-match)) t),
     )
 
-strict-enough : {H : List Line} {P : Program} → Bodies H H P → ((f : ℕ) (h : Line) → getElem? H f ≡ some h → Shaped h) → (f : ℕ) (F : Function) → getElem? P f ≡ some F → F .strict ≤ length (F .sorts)
-strict-enough r lines-ok f F e =
-    let p = line-of-function r f F e in
-    let m = p .2 in
-    subst (λ S. F .strict ≤ length S) (sym (m .sorts-match)) (subst (λ n. n ≤ length (p .0 .sorts)) (sym (m .strict-match)) (lines-ok f (p .0) (p .1) .1))
-
-well-made-of : {H : List Line} (P : Program) (args : List ℕ) → Bodies H H P → ((f : ℕ) (h : Line) → getElem? H f ≡ some h → Shaped h) → fitting P args ≡ true → WellMade P args
+made-of : {H : List Line} (P : Program) (args : List ℕ) → Bodies H H P → Accepted P → fitting P args ≡ true → WellMade P args
 unfolding fitting
-well-made-of [] args r lines-ok e = clash (cc)
-well-made-of (F ∷ P) args r lines-ok e =
+made-of [] args r A e = clash (cc)
+made-of (F ∷ P) args r A e =
     record {
-      program-sorted = bodies-sorted r lines-ok;
+      program-sorted = bodies-sorted r A;
       entry-sorts = F .sorts;
       entry-result = F .result;
-      initial-is-sorted = initial-sorted F P (strict-enough r lines-ok 0 F refl);
+      initial-is-sorted = initial-sorted F P (every-there (Sound (F ∷ P)) (F ∷ P) (A .sound) 0 F refl .few-strict);
       arguments-sorted = all-fit-sorts (F .sorts) args e;
     }
 
@@ -405,8 +339,8 @@ pub well-made : (text : List ℕ) (P : Program) (args : List ℕ) → check text
 unfolding check
 well-made text P args e fit =
     let H = lines text in
-    let long = both-fine (judge-length text) (judge-shape text >> (judge-counts H >> (judge-names 1 [] (map (λ h. h .name) H) >> read-bodies H 1 H))) e in
-    let shape = both-fine (judge-shape text) (judge-counts H >> (judge-names 1 [] (map (λ h. h .name) H) >> read-bodies H 1 H)) (long .2) in
-    let counts = both-fine (judge-counts H) (judge-names 1 [] (map (λ h. h .name) H) >> read-bodies H 1 H) (shape .2) in
+    let long = both-fine (judge-length text) _ e in
+    let shape = both-fine (judge-shape text) _ (long .2) in
+    let counts = both-fine (judge-counts H) _ (shape .2) in
     let names = both-fine (judge-names 1 [] (map (λ h. h .name) H)) (read-bodies H 1 H) (counts .2) in
-    well-made-of P args (bodies-fine H 1 H P (names .2)) (text-shaped text (shape .1)) fit
+    made-of P args (bodies-fine H 1 H P (names .2)) (accepted text P e) fit

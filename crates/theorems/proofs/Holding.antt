@@ -8,6 +8,7 @@ use native.Mathlib.Omega.{arith}
 use lib.ListN.{length, getD, getElem?, length-append}
 use Rattle.meaning.specs.Terms.{Term, arg, op, cond, call, Terms, nil, cons, Function, Program}
 use Rattle.meaning.specs.Code.{size, sizes, count, entrance, row-entrance, entrances, unsorted, Instruction, EVAL, EXEC, SELECT, CALL, RET, code, strict-code, waiting-code, bodies-code, body-entrances, bodies-size, initial, ret-address, translation}
+use Rattle.accepted.proofs.Length.{length-code, length-strict, translation-length}
 use Rattle.theorems.specs.Unlimited.{code-of}
 use Rattle.theorems.proofs.Splitting.{clash}
 
@@ -70,30 +71,6 @@ stands-itself zs (x ∷ xs) =
     moved (y ∷ l) = ap (λ m. y ∷ m) (moved l)
 
 module _ (bodies : List ℕ) (ret : ℕ) where
-  -- One instruction a symbol.
-  mutual
-    unfolding code size
-
-    code-length : (t : Term) (a b : ℕ) → length (code bodies ret t a b) ≡ size t
-    code-length (arg i) a b = refl
-    code-length (op o ts) a b = ap suc (strict-length ts (suc a) a)
-    code-length (cond t x y) a b =
-        simp length-append (omega (arith, code-length t (suc a) a, code-length x (suc a + size t) b, code-length y (suc a + size t + size x) b))
-    code-length (call f ss ws) a b = simp length-append (omega (arith, strict-length ss (suc a) a, waiting-length ws (suc a + sizes ss)))
-
-    strict-length : (ts : Terms) (a home : ℕ) → length (strict-code bodies ret ts a home) ≡ sizes ts
-    strict-length nil a home = refl
-    strict-length (cons t ts) a home = simp length-append (omega (arith, code-length t a (row-entrance ts (a + size t) home), strict-length ts (a + size t) home))
-
-    waiting-length : (ts : Terms) (a : ℕ) → length (waiting-code bodies ret ts a) ≡ sizes ts
-    waiting-length nil a = refl
-    waiting-length (cons t ts) a = simp length-append (omega (arith, code-length t a ret, waiting-length ts (a + size t)))
-
-  bodies-length : (P : Program) (a : ℕ) → length (bodies-code bodies ret P a) ≡ bodies-size P
-  unfolding bodies-code bodies-size
-  bodies-length [] a = refl
-  bodies-length (F ∷ P) a = simp length-append (omega (arith, code-length (F .body) a ret, bodies-length P (a + size (F .body))))
-
   module _ (C : ℕ → Option Instruction) where
     mutual
       unfolding code holds stands
@@ -105,18 +82,18 @@ module _ (bodies : List ℕ) (ret : ℕ) where
           let T = code bodies ret t (suc a) a in
           let X = code bodies ret x (suc a + size t) b in
           let Y = code bodies ret y (suc a + size t + size x) b in
-          let XY : stands C (suc a + size t) (X ++ Y) = stands-right C (suc a) (suc a + size t) T (X ++ Y) (h .1) (omega (arith, code-length t (suc a) a)) in (
+          let XY : stands C (suc a + size t) (X ++ Y) = stands-right C (suc a) (suc a + size t) T (X ++ Y) (h .1) (omega (arith, length-code bodies ret t (suc a) a)) in (
             h .0,
             code-holds t (suc a) a (stands-left C (suc a) T (X ++ Y) (h .1)),
             code-holds x (suc a + size t) b (stands-left C (suc a + size t) X Y XY),
-            code-holds y (suc a + size t + size x) b (stands-right C (suc a + size t) (suc a + size t + size x) X Y XY (omega (arith, code-length x (suc a + size t) b))),
+            code-holds y (suc a + size t + size x) b (stands-right C (suc a + size t) (suc a + size t + size x) X Y XY (omega (arith, length-code bodies ret x (suc a + size t) b))),
           )
       code-holds (call f ss ws) a b h =
           let S = strict-code bodies ret ss (suc a) a in
           let W = waiting-code bodies ret ws (suc a + sizes ss) in (
             h .0,
             strict-holds ss (suc a) a (stands-left C (suc a) S W (h .1)),
-            waiting-holds ws (suc a + sizes ss) (stands-right C (suc a) (suc a + sizes ss) S W (h .1) (omega (arith, strict-length ss (suc a) a))),
+            waiting-holds ws (suc a + sizes ss) (stands-right C (suc a) (suc a + sizes ss) S W (h .1) (omega (arith, length-strict bodies ret ss (suc a) a))),
           )
 
       strict-holds : (ts : Terms) (a home : ℕ) → stands C a (strict-code bodies ret ts a home) → holds-strict C bodies ret ts a home
@@ -125,7 +102,7 @@ module _ (bodies : List ℕ) (ret : ℕ) where
           let T = code bodies ret t a (row-entrance ts (a + size t) home) in
           let S = strict-code bodies ret ts (a + size t) home in (
             code-holds t a (row-entrance ts (a + size t) home) (stands-left C a T S h),
-            strict-holds ts (a + size t) home (stands-right C a (a + size t) T S h (omega (arith, code-length t a (row-entrance ts (a + size t) home)))),
+            strict-holds ts (a + size t) home (stands-right C a (a + size t) T S h (omega (arith, length-code bodies ret t a (row-entrance ts (a + size t) home)))),
           )
 
       waiting-holds : (ts : Terms) (a : ℕ) → stands C a (waiting-code bodies ret ts a) → holds-waiting C bodies ret ts a
@@ -133,7 +110,7 @@ module _ (bodies : List ℕ) (ret : ℕ) where
       waiting-holds (cons t ts) a h =
           let T = code bodies ret t a ret in
           let W = waiting-code bodies ret ts (a + size t) in
-          (code-holds t a ret (stands-left C a T W h), waiting-holds ts (a + size t) (stands-right C a (a + size t) T W h (omega (arith, code-length t a ret))))
+          (code-holds t a ret (stands-left C a T W h), waiting-holds ts (a + size t) (stands-right C a (a + size t) T W h (omega (arith, length-code bodies ret t a ret))))
 
     bodies-hold : (P : Program) (a : ℕ) → stands C a (bodies-code bodies ret P a) → (f : ℕ) (F : Function) → getElem? P f ≡ some F
         → (b : ℕ) × (getD (body-entrances P a) f 0 ≡ entrance (F .body) b) × holds C bodies ret (F .body) b ret
@@ -144,7 +121,7 @@ module _ (bodies : List ℕ) (ret : ℕ) where
         rw (← same) (a, refl, code-holds (G .body) a ret (stands-left C a (code bodies ret (G .body) a ret) (bodies-code bodies ret P (a + size (G .body))) h))
     bodies-hold (G ∷ P) a h (suc f) F k =
         bodies-hold P (a + size (G .body))
-        (stands-right C a (a + size (G .body)) (code bodies ret (G .body) a ret) (bodies-code bodies ret P (a + size (G .body))) h (omega (arith, code-length (G .body) a ret))) f F k
+        (stands-right C a (a + size (G .body)) (code bodies ret (G .body) a ret) (bodies-code bodies ret P (a + size (G .body))) h (omega (arith, length-code bodies ret (G .body) a ret))) f F k
 
 -- The translation.
 
@@ -165,14 +142,19 @@ module _ (P : Program) where
   bodies-stand : stands (code-of P) (size (initial P)) (bodies-part ++ (RET ∷ []))
   unfolding initial-part
   bodies-stand =
-      stands-right (code-of P) 0 (size (initial P)) initial-part (bodies-part ++ (RET ∷ [])) all-stands (omega (arith, code-length (entries-of P) (ret-address P) (initial P) 0 (ret-address P)))
+      stands-right (code-of P) 0 (size (initial P)) initial-part (bodies-part ++ (RET ∷ [])) all-stands (omega (arith, length-code (entries-of P) (ret-address P) (initial P) 0 (ret-address P)))
+
+  before-ret : size (initial P) + length bodies-part ≡ ret-address P
+  unfolding translation initial-part bodies-part
+  before-ret =
+      let whole : length (initial-part ++ (bodies-part ++ (RET ∷ []))) ≡ ret-address P + 1 = translation-length P in
+      omega (arith, simp length-append at whole, length-code (entries-of P) (ret-address P) (initial P) 0 (ret-address P))
 
   pub loaded : Loaded P (code-of P) (entries-of P) (ret-address P)
-  unfolding bodies-part stands ret-address
+  unfolding bodies-part stands
   loaded =
       record {
-        ret-held = stands-right (code-of P) (size (initial P)) (ret-address P) bodies-part (RET ∷ []) bodies-stand
-            (omega (arith, bodies-length (entries-of P) (ret-address P) P (size (initial P)))) .0;
+        ret-held = stands-right (code-of P) (size (initial P)) (ret-address P) bodies-part (RET ∷ []) bodies-stand before-ret .0;
         body-held = bodies-hold (entries-of P) (ret-address P) (code-of P) P (size (initial P)) (stands-left (code-of P) (size (initial P)) bodies-part (RET ∷ []) bodies-stand);
       }
 
