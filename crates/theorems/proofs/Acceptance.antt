@@ -2,18 +2,17 @@
 use mathlib.Core.Path.{_≡_, refl, ap, sym, _∙_, subst}
 use mathlib.Core.Bool.{Bool, true, false, _&&_}
 use mathlib.Core.Option.{Option, none, some}
-use mathlib.Core.List.{List, [], _∷_, _++_, map}
-use Prim.Native.Nat.{ℕ, zero, suc, _+_, _-_, _*_, _≤_, _<_}
+use mathlib.Core.List.{List, [], _∷_, map}
+use Prim.Native.Nat.{ℕ, zero, suc, _+_, _-_, _≤_, _<_}
 use native.Mathlib.Omega.{arith}
-use lib.Dec.{leb, eqb}
-use lib.ListN.{length, take, drop, getD, getElem?, length-drop, length-map}
+use lib.ListN.{length, take, drop, getD, getElem?, length-drop}
 use lib.Seq.{drop-cons, take-all}
 use borrow.Author.Tests.{leb-true}
-use Rattle.meaning.specs.Basics.{if_then_else_, between, byte, all}
-use Rattle.meaning.specs.Arithmetic.{Sort, number, yes-no, Op, constant, add, sub, mul, div, rem, eq, lt, and, or, neg, domain, range}
-use Rattle.meaning.specs.Numbers.{most-arguments, most-depth}
-use Rattle.meaning.specs.Text.{Verdict, fine, refused, _>>=_, _>>_, Field, tab, line-end, pieces, is-count, are-sorts, value, value-from, forms, is-name, is-result, is-visible, first-wrong, wrong-field, judge-line, judge-lines, judge-shape, Line, sort-of, line-of, all-but-last, lines, judge-length, judge-counts, judge-names, same as same-field}
-use Rattle.meaning.specs.Terms.{Term, arg, op, cond, call, Terms, nil, cons, Function, Program, Symbol, argument, operation, condition, function, unknown, Word, vocabulary, is-decimal, named, spelt-in, symbol, Takes, takes, cannot, argument-takes, call-takes, takes-of, same-sort, if-sort, Read, got, fault, first-terms, other-terms, strict-of, condition-of, applied, with-arguments, and-more, then-more, read-row, read-taken, read-term, nothing-after, read-body, function-of, read-bodies, other-sort}
+use Rattle.meaning.specs.Basics.{if_then_else_}
+use Rattle.meaning.specs.Arithmetic.{Sort, number, yes-no, constant, domain}
+use Rattle.meaning.specs.Numbers.{most-depth}
+use Rattle.meaning.specs.Text.{Verdict, fine, refused, _>>=_, _>>_, Field, value, judge-shape, Line, lines, judge-length, judge-counts, judge-names, same as same-field}
+use Rattle.meaning.specs.Terms.{Term, Terms, nil, cons, Function, Program, Symbol, argument, operation, condition, function, unknown, Word, vocabulary, is-decimal, named, spelt-in, symbol, Takes, takes, cannot, argument-takes, call-takes, takes-of, same-sort, if-sort, Read, got, fault, first-terms, other-terms, strict-of, condition-of, applied, with-arguments, and-more, then-more, read-row, read-taken, read-term, nothing-after, read-body, function-of, read-bodies, other-sort}
 use Rattle.meaning.specs.Check.{check}
 use Rattle.meaning.specs.Code.{own, initial}
 use Rattle.meaning.specs.Answers.{fits, all-fit, fitting}

@@ -1,16 +1,16 @@
 -- Trees and leftmost rewriting agree: a tree's term reaches its value in the tree's rewrites, and where a sorted term reaches a value there is a tree
 -- with as many. Assumes nothing.
 use mathlib.Core.Path.{_≡_, refl, ap, sym, _∙_, subst}
-use mathlib.Core.Logic.{_⊎_, inl, inr}
-use mathlib.Core.Option.{Option, none, some}
+use mathlib.Core.Logic.{inl, inr}
+use mathlib.Core.Option.{Option, some}
 use mathlib.Core.List.{List, [], _∷_}
-use Prim.Native.Nat.{ℕ, zero, suc, _+_, _≤_, _<_}
+use Prim.Native.Nat.{ℕ, zero, suc, _≤_, _<_}
 use native.Mathlib.Omega.{arith}
 use lib.ListN.{take, getElem?}
 use Rattle.meaning.specs.Arithmetic.{Sort, yes-no, domain, range}
 use Rattle.meaning.specs.Terms.{Term, arg, op, cond, call, Terms, nil, cons, Function, Program}
-use Rattle.meaning.specs.Rewriting.{Closed, val, Closeds, none-left, and-then, _followed-by_, argument, put-in, put-all-in, vals, rewrite}
-use Rattle.theorems.proofs.Splitting.{clash, counted, Leads, arrived, onward, RowLeads, row-arrived, row-onward, row-leads, op-leads, yes-leads, no-leads, call-leads, value-parts, op-parts, cond-parts, call-parts, row-parts, no-parts}
+use Rattle.meaning.specs.Rewriting.{val, Closeds, none-left, and-then, _followed-by_, argument, put-in, put-all-in, vals, rewrite}
+use Rattle.theorems.proofs.Splitting.{clash, counted, Leads, arrived, RowLeads, row-arrived, row-leads, op-leads, yes-leads, no-leads, call-leads, value-parts, op-parts, cond-parts, call-parts, row-parts, no-parts}
 use Rattle.theorems.proofs.Trees.{Argument, given, waits, Chain, bottom, push, all-wait, call-frame, Tree, entry-argument, value-argument, waiting-argument, operation, yes-branch, no-branch, body, Row, done, then, cost, row-cost}
 use Rattle.theorems.proofs.Sorts.{of-sort, of-sorts, sorted, row-sorted, Sorted, argument-sorted, frame-sorted, chain-sorted, value-there, argument-there, call-frame-sorted, few-operands, few-strict, apply-sorted}
 

@@ -1,14 +1,13 @@
 -- Third: how many steps n rewrites can take. Every call is a rewrite; every value that is looked up is taken by a rewrite, or is the result; a waiting
 -- lookup goes to a chain one frame shorter, and a call's body stands in one a frame longer with a rewrite fewer to go. Assumes nothing.
-use mathlib.Core.Path.{_≡_, refl}
-use mathlib.Core.List.{List, [], _∷_}
-use Prim.Native.Nat.{ℕ, zero, suc, _+_, _*_, _≤_}
+use mathlib.Core.List.{List}
+use Prim.Native.Nat.{ℕ, _+_, _*_, _≤_}
 use native.Mathlib.Nat.{mul-le-mul, mul-le-mul-left, mul-le-mul-right, le-trans, add-le-add}
 use native.Mathlib.Omega.{arith}
 use Rattle.meaning.specs.Terms.{Term, Terms, Program}
 use Rattle.meaning.specs.Code.{count}
 use Rattle.theorems.specs.Theorems.{bound}
-use Rattle.theorems.proofs.Trees.{Chain, bottom, depth, Tree, entry-argument, value-argument, waiting-argument, operation, yes-branch, no-branch, body, Row, done, then, Cost, cost, row-cost, steps}
+use Rattle.theorems.proofs.Trees.{Chain, bottom, depth, Tree, entry-argument, value-argument, waiting-argument, operation, yes-branch, no-branch, body, Row, done, then, cost, row-cost, steps}
 
 module _ {P : Program} where
   mutual

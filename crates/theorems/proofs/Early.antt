@@ -1,6 +1,6 @@
 -- A rewriting that works waiting arguments out early is refuted by document 01's PAIR: at 5 and 7 the run halts with 5 after 5 rewrites, and in 5 early
 -- rewrites there is no value yet (LOOP never has one). Assumes nothing.
-use mathlib.Core.Path.{_≡_, refl, ap, sym, _∙_}
+use mathlib.Core.Path.{_≡_, refl, ap}
 use mathlib.Core.Bool.{Bool, true, false}
 use mathlib.Core.List.{List, [], _∷_}
 use Prim.Native.Nat.{ℕ}
@@ -50,8 +50,8 @@ not-early : is-a-value (rewrite-times (early PAIR) 5 (entry-call (early PAIR) fi
 unfolding PAIR rewrite-text early one-row early-term is-a-value
 not-early = refl
 
-pub early-refuted : EarlyRefuted
+pub refuted-by-pair : EarlyRefuted
 unfolding Reaches is-a-value
-early-refuted would =
+refuted-by-pair would =
     let reached = would (bytes pair) PAIR five-and-seven 12 5 12 5 pair-accepted pair-fits pair-halts in
     clash (cc (not-early, ap is-a-value reached))

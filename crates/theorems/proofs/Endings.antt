@@ -2,18 +2,18 @@
 -- Assumes nothing.
 use mathlib.Core.Path.{_≡_, refl, ap, sym, _∙_, subst}
 use mathlib.Core.Logic.{_⊎_, inl, inr}
-use mathlib.Core.Bool.{Bool, true, false}
-use mathlib.Core.List.{List, [], _∷_}
-use Prim.Native.Nat.{ℕ, zero, suc, _+_, _-_, _≤_, _<_}
+use mathlib.Core.Bool.{false}
+use mathlib.Core.List.{List}
+use Prim.Native.Nat.{ℕ, suc, _+_, _-_, _≤_, _<_}
 use native.Mathlib.Omega.{arith}
 use Rattle.meaning.specs.Numbers.{HALT, FUEL, DEEP, STUCK, most-height}
 use Rattle.meaning.specs.Terms.{Program}
-use Rattle.meaning.specs.Machine.{Environment, Place, stop, at, State, state, Next, next, no-step, obey, rewrites, too-high, Ending, ended, top, run, start, run-program}
-use Rattle.theorems.specs.Unlimited.{code-of, start-of, machine-after, rewrites-after, has-stopped, value-of, data-height, return-height}
-use Rattle.theorems.specs.Theorems.{first-too-high, LowUntil, Passes, Stops, StopsInLimits, MeetsStepLimit, MeetsHeightLimit}
+use Rattle.meaning.specs.Machine.{Environment, Place, stop, at, State, state, next, no-step, obey, rewrites, too-high, Ending, ended, top, run, start, run-program}
+use Rattle.theorems.specs.Unlimited.{code-of, start-of, machine-after, has-stopped, value-of, data-height, return-height}
+use Rattle.theorems.specs.Limits.{first-too-high, LowUntil, Passes, Stops, StopsInLimits, MeetsStepLimit, MeetsHeightLimit}
 use Rattle.theorems.proofs.Splitting.{clash}
 use Rattle.theorems.proofs.Courses.{Goes, stay, timed, _▸_, stepped, stops-once, before-stop, has-step-before-stop, after-of, course-of, last-step}
-use Rattle.theorems.proofs.Limits.{Low, low-of, not-high-of, high-of, too-high-of, just-too-high, run-along, run-stopped, run-fuel, run-deep, Says, halted, fuelled, deepened, jammed, says}
+use Rattle.theorems.proofs.Limits.{Low, low-of, not-high-of, too-high-of, just-too-high, run-along, run-stopped, run-fuel, run-deep, Says, halted, fuelled, deepened, jammed, says}
 use Rattle.theorems.proofs.Wholes.{stops-of, stop-course}
 
 above : (s : State) → (data-height s ≡ first-too-high) ⊎ (return-height s ≡ first-too-high) → (most-height < data-height s) ⊎ (most-height < return-height s)

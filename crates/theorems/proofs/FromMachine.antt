@@ -1,7 +1,7 @@
 -- Fifth: machine to trees. From the entrance of a sorted term the machine has a tree's value to come to, or goes on for as many steps as one likes: it
 -- never stands without a next step, and never stops with anything else. By the number of steps. Assumes nothing.
-use mathlib.Core.Path.{_≡_, refl, subst}
-use mathlib.Core.Option.{Option, none, some}
+use mathlib.Core.Path.{_≡_, subst}
+use mathlib.Core.Option.{Option, some}
 use mathlib.Core.List.{List, [], _∷_, _++_, map}
 use Prim.Native.Nat.{ℕ, zero, suc, _+_, _≤_, _<_}
 use native.Mathlib.Omega.{arith}
@@ -14,7 +14,7 @@ use Rattle.theorems.proofs.Trees.{Argument, given, waits, Chain, bottom
 use Rattle.theorems.proofs.Sorts.{of-sort, of-sorts, sorted, row-sorted, Sorted, argument-sorted, chain-sorted, value-there, argument-there, call-frame-sorted, few-operands, few-strict, apply-sorted}
 use Rattle.theorems.proofs.Courses.{Goes, stay, _▸_}
 use Rattle.theorems.proofs.Holding.{holds, holds-strict, Loaded}
-use Rattle.theorems.proofs.ToMachine.{ChainFor, of-push, waits-slot, call-frame-for, waiting-step, yes-step, no-way-step, call-step, tree-goes, row-goes}
+use Rattle.theorems.proofs.ToMachine.{ChainFor, of-push, waits-slot, call-frame-for, waiting-step, choose-yes, choose-no, call-step, tree-goes, row-goes}
 
 -- Within N steps from s there is an A, or the machine makes at least N steps.
 pub data Within (C : ℕ → Option Instruction) (A : Type 0) (N : ℕ) (s : State) : Type 0 where
@@ -62,9 +62,9 @@ module _ {P : Program} {C : ℕ → Option Instruction} {bodies : List ℕ} {ret
         → Within C (Value P e (cond t x y) s) (suc N) (state (at (entrance t (suc a))) rs ds (E ∷ es))
     unfolding holds
     cond-within t x y s e a b E rs ds es k r zero d l in-x in-y =
-        after (tree-goes L d (suc a) a rs ds es (k .1) r ▸ no-way-step L (k .0)) (omega arith) (λ z. (z .0, no-branch d (z .1), z .2)) in-y
+        after (tree-goes L d (suc a) a rs ds es (k .1) r ▸ choose-no L (k .0)) (omega arith) (λ z. (z .0, no-branch d (z .1), z .2)) in-y
     cond-within t x y s e a b E rs ds es k r (suc zero) d l in-x in-y =
-        after (tree-goes L d (suc a) a rs ds es (k .1) r ▸ yes-step L (k .0)) (omega arith) (λ z. (z .0, yes-branch d (z .1), z .2)) in-x
+        after (tree-goes L d (suc a) a rs ds es (k .1) r ▸ choose-yes L (k .0)) (omega arith) (λ z. (z .0, yes-branch d (z .1), z .2)) in-x
     cond-within t x y s e a b E rs ds es k r (suc (suc v)) d l in-x in-y = absurd (omega arith)
 
     call-within : (f : ℕ) (ss ws : Terms) (e : Chain) (G : List Sort) (s : Sort) (a b : ℕ) (E : Environment) (rs : List Place) (ds : List ℕ) (es : List Environment) → chain-sorted P e G

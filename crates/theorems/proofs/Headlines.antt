@@ -1,16 +1,15 @@
 -- Last: the statements of specs/Theorems.antt, proved. Assumes nothing.
-use mathlib.Core.Path.{_≡_, refl, ap, sym, _∙_, subst, subst₂, subst₃}
-use mathlib.Core.Logic.{_⊎_, inl, inr}
-use mathlib.Core.Bool.{Bool, true, false}
-use mathlib.Core.List.{List, [], _∷_}
-use Prim.Native.Nat.{ℕ, zero, suc, _+_, _≤_, _<_}
+use mathlib.Core.Path.{_≡_, refl, sym, _∙_, subst, subst₂, subst₃}
+use mathlib.Core.Logic.{inl, inr}
+use mathlib.Core.Bool.{true, false}
+use Prim.Native.Nat.{ℕ, suc}
 use native.Mathlib.Omega.{arith}
-use Rattle.meaning.specs.Terms.{Program}
 use Rattle.meaning.specs.Numbers.{no, HALT, FUEL, DEEP, STUCK}
-use Rattle.meaning.specs.Machine.{State, state, stop, at, next, Ending, ended, start, top, run-program}
+use Rattle.meaning.specs.Machine.{State, state, stop, at, next, ended, start, top, run-program}
 use Rattle.meaning.specs.Rewriting.{Reaches, entry-call}
 use Rattle.theorems.specs.Unlimited.{code-of, start-of, machine-after, has-stopped, return-height, environment-height}
-use Rattle.theorems.specs.Theorems.{bound, StopsInLimits, MeetsStepLimit, MeetsHeightLimit, HaltsRight, LimitsAreTheMachines, InTime, MachineAgrees, OneValue, OneCourse, NeverStuck, Height, OneOutcome, Admitted, RunHaltsRight, RunLimitsAreTheMachines, RunInTime, RunNeverStuck}
+use Rattle.theorems.specs.Limits.{StopsInLimits, MeetsStepLimit, MeetsHeightLimit}
+use Rattle.theorems.specs.Theorems.{HaltsRight, LimitsAreTheMachines, InTime, MachineAgrees, OneValue, OneCourse, NeverStuck, Height, OneOutcome, RunHaltsRight, RunLimitsAreTheMachines, RunInTime, RunNeverStuck, EarlyRefuted}
 use Rattle.theorems.proofs.Splitting.{clash, leads-of, leads-once}
 use Rattle.theorems.proofs.Courses.{Goes, stay, timed, _▸_, stepped, stops-once, after-of, course-of}
 use Rattle.theorems.proofs.Heights.{heights-after}
@@ -18,6 +17,7 @@ use Rattle.theorems.proofs.Acceptance.{well-made}
 use Rattle.theorems.proofs.Wholes.{stops-of, stop-course, stops-where-reached, reached-where-stopped, next-step}
 use Rattle.theorems.proofs.Endings.{fuel-place, deep-place, halt-place, stuck-place, place-fuel, place-deep, place-halt, passes-of, enough-steps}
 use Rattle.theorems.proofs.Refusals.{admitted-answer, answer-runs}
+use Rattle.theorems.proofs.Early.{refuted-by-pair}
 
 pub machine-agrees : MachineAgrees
 unfolding top
@@ -128,3 +128,6 @@ unfolding no
 run-never-stuck text args limit code work e =
     let p = answer-runs text args limit code work STUCK (inr (omega arith)) e in
     never-stuck text (p .0) args (p .1 .accepted) (p .1 .fits) .1 limit _ _ _ (p .2)
+
+pub early-refuted : EarlyRefuted
+early-refuted = refuted-by-pair

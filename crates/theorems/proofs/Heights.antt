@@ -1,6 +1,6 @@
 -- How high the stacks stand: a call and a waiting lookup add one level to the return stack and to the environments, a return takes one off both, and no
 -- step adds more than one to a stack. Assumes nothing.
-use mathlib.Core.Path.{_≡_, refl, ap, sym, _∙_, subst}
+use mathlib.Core.Path.{_≡_, refl, ap, subst}
 use mathlib.Core.Option.{Option, none, some}
 use mathlib.Core.List.{List, [], _∷_}
 use Prim.Native.Nat.{ℕ, zero, suc, _+_, _≤_}

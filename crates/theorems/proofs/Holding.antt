@@ -1,13 +1,13 @@
 -- The translation of a program holds what the proofs ask of code: the initial term and every body stand where their entrances say, each symbol's
 -- instruction at its address, and RET is at the last one. Assumes nothing.
 use mathlib.Core.Path.{_≡_, refl, ap, subst}
-use mathlib.Core.Option.{Option, none, some}
+use mathlib.Core.Option.{Option, some}
 use mathlib.Core.List.{List, [], _∷_, _++_}
 use Prim.Native.Nat.{ℕ, zero, suc, _+_}
 use native.Mathlib.Omega.{arith}
 use lib.ListN.{length, getD, getElem?, length-append}
 use Rattle.meaning.specs.Terms.{Term, arg, op, cond, call, Terms, nil, cons, Function, Program}
-use Rattle.meaning.specs.Code.{size, sizes, count, entrance, row-entrance, entrances, unsorted, Instruction, EVAL, EXEC, SELECT, CALL, RET, code, strict-code, waiting-code, bodies-code, body-entrances, bodies-size, initial, ret-address, translation}
+use Rattle.meaning.specs.Code.{size, sizes, count, entrance, row-entrance, entrances, unsorted, Instruction, EVAL, EXEC, SELECT, CALL, RET, code, strict-code, waiting-code, bodies-code, body-entrances, initial, ret-address, translation}
 use Rattle.accepted.proofs.Length.{length-code, length-strict, translation-length}
 use Rattle.theorems.specs.Unlimited.{code-of}
 use Rattle.theorems.proofs.Splitting.{clash}

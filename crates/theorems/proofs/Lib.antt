@@ -13,5 +13,5 @@ pub mod Acceptance
 pub mod Wholes
 pub mod Endings
 pub mod Refusals
-pub mod Headlines
 pub mod Early
+pub mod Headlines

@@ -3,9 +3,9 @@
 use mathlib.Core.Path.{_≡_, refl, ap, sym, _∙_, subst}
 use mathlib.Core.Logic.{_⊎_, inl, inr}
 use mathlib.Core.Bool.{Bool, true, false, _||_}
-use mathlib.Core.Option.{Option, none, some}
-use mathlib.Core.List.{List, [], _∷_}
-use Prim.Native.Nat.{ℕ, zero, suc, _+_, _-_, _≤_, _<_}
+use mathlib.Core.Option.{Option}
+use mathlib.Core.List.{List}
+use Prim.Native.Nat.{ℕ, zero, suc, _+_, _≤_, _<_}
 use native.Mathlib.Omega.{arith}
 use lib.Dec.{ltb}
 use lib.ListN.{length}
@@ -14,7 +14,7 @@ use Rattle.meaning.specs.Numbers.{HALT, FUEL, DEEP, STUCK, most-height}
 use Rattle.meaning.specs.Code.{Instruction}
 use Rattle.meaning.specs.Machine.{Environment, Place, stop, at, State, state, Next, next, no-step, obey, rewrites, too-high, Ending, ended, top, unless-high, after-step, run}
 use Rattle.theorems.specs.Unlimited.{step, from-next, state-after, return-height, data-height}
-use Rattle.theorems.specs.Theorems.{first-too-high}
+use Rattle.theorems.specs.Limits.{first-too-high}
 use Rattle.theorems.proofs.Splitting.{clash}
 use Rattle.theorems.proofs.Courses.{Goes, stay, go, stepped, next-same}
 use Rattle.theorems.proofs.Heights.{one-at-most}

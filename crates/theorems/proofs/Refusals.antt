@@ -12,13 +12,13 @@ use borrow.Author.Tests.{leb-true, le-leb}
 use Rattle.meaning.specs.Basics.{if_then_else_}
 use Rattle.meaning.specs.Numbers.{Number, no, HALT, LONG, LINE, COUNT, NAME, TERM, NEST, ARGS, ROOM, FUEL, DEEP, STUCK, most-bytes, most-functions, most-symbols, instruction-words, work-words}
 use Rattle.meaning.specs.Text.{Verdict, fine, refused, _>>=_, _>>_, Passed, Field, Line, pieces, tab, line-end, wrong-field, judge-line, judge-lines, judge-shape, judge-length, judge-symbols, judge-counts, judge-names, is-among, lines}
-use Rattle.meaning.specs.Terms.{Term, Function, Program, Wrong, unknown-symbol, lacking-argument, other-sort, early-end, left-over, too-deep, wrong-number, Read, got, fault, read-body, function-of, read-bodies}
+use Rattle.meaning.specs.Terms.{Term, Program, Wrong, unknown-symbol, lacking-argument, other-sort, early-end, left-over, too-deep, wrong-number, Read, got, fault, read-body, function-of, read-bodies}
 use Rattle.meaning.specs.Check.{check}
 use Rattle.meaning.specs.Code.{translation}
 use Rattle.meaning.specs.Machine.{Ending, ended, run-program}
 use Rattle.meaning.specs.Answers.{judge-room, judge-arguments, fitting, code-fits, admit-run, ran, answered, run-answer}
 use Rattle.meaning.specs.declared.Answer.{Answer}
-use Rattle.theorems.specs.Theorems.{Admitted}
+use Rattle.theorems.specs.Outcomes.{Admitted}
 use Rattle.theorems.proofs.Splitting.{clash}
 use Rattle.theorems.proofs.Acceptance.{bound-fine, both-fine, fine-same, both-true}
 

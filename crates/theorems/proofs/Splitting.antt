@@ -1,6 +1,6 @@
 -- First: leftmost rewriting goes argument by argument. A term that reaches a value splits into parts that reach theirs, and parts that reach theirs
 -- make a term that does, rewrites added up. So a term reaches one value in one number of rewrites. Assumes nothing.
-use mathlib.Core.Path.{_≡_, refl, ap, ap₂, sym, _∙_, subst}
+use mathlib.Core.Path.{_≡_, refl, ap, ap₂, _∙_, subst}
 use mathlib.Core.Logic.{_⊎_, inl, inr}
 use mathlib.Core.Option.{Option, none, some}
 use mathlib.Core.List.{List, [], _∷_}

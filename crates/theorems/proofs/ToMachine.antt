@@ -1,17 +1,17 @@
 -- Fourth: trees to machine. From the entrance of a term the machine comes to what follows it, with the tree's value on the data stack, in exactly the
 -- steps and rewrites that the tree costs. Assumes nothing.
 use mathlib.Core.Path.{_≡_, refl, ap, _∙_}
-use mathlib.Core.Option.{Option, none, some}
+use mathlib.Core.Option.{Option, some}
 use mathlib.Core.List.{List, [], _∷_, _++_, map}
 use Prim.Native.Nat.{ℕ, zero, suc, _+_}
 use native.Mathlib.Omega.{arith}
-use lib.ListN.{length, getD, getElem?}
+use lib.ListN.{length, getElem?}
 use Rattle.meaning.specs.Arithmetic.{Op, constant, add, sub, mul, div, rem, eq, lt, and, or, neg, domain, apply, of-none, of-one, of-two}
-use Rattle.meaning.specs.Terms.{Term, arg, op, cond, call, Terms, nil, cons, Function, Program}
-use Rattle.meaning.specs.Code.{size, sizes, entrance, row-entrance, entrances, unsorted, Instruction, EVAL, EXEC, SELECT, CALL, RET}
-use Rattle.meaning.specs.Machine.{Slot, value, waiting, Frame, Environment, Place, stop, at, State, state, next, taken, look-at, look-up, push-result, execute, choose, enter, call-body, go-back, obey, rewrites}
+use Rattle.meaning.specs.Terms.{Term, Terms, nil, cons, Program}
+use Rattle.meaning.specs.Code.{size, sizes, entrance, row-entrance, entrances, unsorted, Instruction, EVAL, EXEC, SELECT, CALL}
+use Rattle.meaning.specs.Machine.{value, waiting, Frame, Environment, Place, at, state, taken, look-at, look-up, push-result, execute, choose, enter, call-body, go-back, obey, rewrites}
 use Rattle.theorems.proofs.Splitting.{clash}
-use Rattle.theorems.proofs.Trees.{Argument, given, waits, Chain, bottom, push, all-wait, call-frame, Tree, entry-argument, value-argument, waiting-argument, operation, yes-branch, no-branch, body, Row, done, then, row-length, Cost, cost, row-cost, steps}
+use Rattle.theorems.proofs.Trees.{Argument, given, waits, Chain, bottom, push, all-wait, call-frame, Tree, entry-argument, value-argument, waiting-argument, operation, yes-branch, no-branch, body, Row, done, then, row-length, cost, row-cost, steps}
 use Rattle.theorems.proofs.Courses.{Goes, stay, go, timed, _▸_}
 use Rattle.theorems.proofs.Holding.{holds, holds-strict, holds-waiting, Loaded}
 
@@ -151,13 +151,13 @@ module _ {P : Program} {C : ℕ → Option Instruction} {bodies : List ℕ} {ret
       (go h (ap (λ x. execute (unsorted o) x b rs es) (taken-pile (length (domain (unsorted o))) vs ds (enough-given (unsorted o) vs k′)) ∙ ap (λ x. push-result x b rs ds es) k′) stay)
       (omega arith) (omega arith)
 
-  pub yes-step : {a x y : ℕ} {rs : List Place} {ds : List ℕ} {es : List Environment} → C a ≡ some (SELECT x y) → Goes C (state (at a) rs (1 ∷ ds) es) 1 1 (state (at x) rs ds es)
+  pub choose-yes : {a x y : ℕ} {rs : List Place} {ds : List ℕ} {es : List Environment} → C a ≡ some (SELECT x y) → Goes C (state (at a) rs (1 ∷ ds) es) 1 1 (state (at x) rs ds es)
   unfolding obey choose rewrites
-  yes-step h = timed (go h refl stay) (omega arith) (omega arith)
+  choose-yes h = timed (go h refl stay) (omega arith) (omega arith)
 
-  pub no-way-step : {a x y : ℕ} {rs : List Place} {ds : List ℕ} {es : List Environment} → C a ≡ some (SELECT x y) → Goes C (state (at a) rs (0 ∷ ds) es) 1 1 (state (at y) rs ds es)
+  pub choose-no : {a x y : ℕ} {rs : List Place} {ds : List ℕ} {es : List Environment} → C a ≡ some (SELECT x y) → Goes C (state (at a) rs (0 ∷ ds) es) 1 1 (state (at y) rs ds es)
   unfolding obey choose rewrites
-  no-way-step h = timed (go h refl stay) (omega arith) (omega arith)
+  choose-no h = timed (go h refl stay) (omega arith) (omega arith)
 
   pub call-step : (vs : List ℕ) {a x k b : ℕ} {ws : List ℕ} {rs : List Place} {ds : List ℕ} {E : Environment} {es : List Environment} → C a ≡ some (CALL x k ws b) → length vs ≡ k
       → Goes C (state (at a) rs (pile vs ds) (E ∷ es)) 1 1 (state (at x) (at b ∷ rs) ds (((map value vs ++ map waiting ws) ∷ E) ∷ E ∷ es))
@@ -177,8 +177,8 @@ module _ {P : Program} {C : ℕ → Option Instruction} {bodies : List ℕ} {ret
         let p = waits-slot q i h in
         timed (waiting-step k (p .1) ▸ tree-goes d (p .0) ret (at b ∷ rs) ds ((s ∷ E) ∷ es) (p .2) r ▸ return-step) (omega arith) (omega arith)
     tree-goes (operation {o = o} {vs = vs} l ts h) a b rs ds es k r = timed (row-goes ts (suc a) a rs ds es (k .1) r ▸ operation-step o vs (k .0) h) (omega arith) (omega arith)
-    tree-goes (yes-branch d d′) a b rs ds es k r = timed (tree-goes d (suc a) a rs ds es (k .1) r ▸ yes-step (k .0) ▸ tree-goes d′ _ b rs ds es (k .2) r) (omega arith) (omega arith)
-    tree-goes (no-branch d d′) a b rs ds es k r = timed (tree-goes d (suc a) a rs ds es (k .1) r ▸ no-way-step (k .0) ▸ tree-goes d′ _ b rs ds es (k .3) r) (omega arith) (omega arith)
+    tree-goes (yes-branch d d′) a b rs ds es k r = timed (tree-goes d (suc a) a rs ds es (k .1) r ▸ choose-yes (k .0) ▸ tree-goes d′ _ b rs ds es (k .2) r) (omega arith) (omega arith)
+    tree-goes (no-branch d d′) a b rs ds es k r = timed (tree-goes d (suc a) a rs ds es (k .1) r ▸ choose-no (k .0) ▸ tree-goes d′ _ b rs ds es (k .3) r) (omega arith) (omega arith)
     tree-goes (body {f = f} {F = F} {ss = ss} {ws = ws} {vs = vs} l ts h d) a b {E} rs ds es k r =
         let p = L .body-held f F h in
         timed

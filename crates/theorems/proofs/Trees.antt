@@ -1,7 +1,7 @@
 -- Second: what stands between rewriting and the machine. A tree says that a term gives a value in a chain of frames, one constructor for each way
 -- there; its cost says how many rewrites, lookups and calls that takes. Assumes nothing.
 use mathlib.Core.Path.{_≡_, refl, ap}
-use mathlib.Core.Option.{Option, none, some}
+use mathlib.Core.Option.{some}
 use mathlib.Core.List.{List, [], _∷_}
 use Prim.Native.Nat.{ℕ, suc, _+_, _*_, _≤_}
 use lib.ListN.{length, getElem?}

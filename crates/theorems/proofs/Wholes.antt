@@ -1,22 +1,23 @@
 -- Everything joined, for a program that is sorted throughout: the machine without limits stops exactly where leftmost rewriting reaches a value, within
 -- the bound, and until it stops it has a next step. Assumes nothing.
-use mathlib.Core.Path.{_≡_, refl, ap, sym, _∙_, subst}
-use mathlib.Core.Bool.{true, false}
+use mathlib.Core.Path.{_≡_, refl, ap, sym, subst}
+use mathlib.Core.Bool.{true}
 use mathlib.Core.List.{List, [], _∷_}
-use Prim.Native.Nat.{ℕ, zero, suc, _+_, _≤_, _<_}
+use Prim.Native.Nat.{ℕ, suc, _+_, _≤_}
 use native.Mathlib.Omega.{arith}
 use Rattle.meaning.specs.Terms.{Program}
 use Rattle.meaning.specs.Code.{initial, ret-address}
-use Rattle.meaning.specs.Machine.{Environment, Place, stop, at, State, state, Next, next, obey, start, top}
+use Rattle.meaning.specs.Machine.{Environment, Place, stop, at, State, state, next, obey, start, top}
 use Rattle.meaning.specs.Rewriting.{Reaches, entry-call}
-use Rattle.theorems.specs.Unlimited.{code-of, start-of, machine-after, rewrites-after, has-stopped, value-of}
-use Rattle.theorems.specs.Theorems.{bound, Stops}
+use Rattle.theorems.specs.Unlimited.{code-of, start-of, machine-after, has-stopped, value-of}
+use Rattle.theorems.specs.Limits.{Stops}
+use Rattle.theorems.specs.Theorems.{bound}
 use Rattle.theorems.proofs.Splitting.{clash, counted, leads-of, reaches-of}
 use Rattle.theorems.proofs.Trees.{Tree, bottom, cost, steps}
 use Rattle.theorems.proofs.Bound.{steps-most}
 use Rattle.theorems.proofs.Sorts.{chain-sorted}
 use Rattle.theorems.proofs.Agreement.{chain-read, tree-leads, tree-found}
-use Rattle.theorems.proofs.Courses.{Goes, stay, timed, _▸_, stepped, begins, stops-once, not-past-stop, has-step, has-step-before-stop, after-of, course-of}
+use Rattle.theorems.proofs.Courses.{Goes, timed, _▸_, begins, stops-once, not-past-stop, has-step, has-step-before-stop, after-of, course-of}
 use Rattle.theorems.proofs.Holding.{loaded, initial-held}
 use Rattle.theorems.proofs.ToMachine.{of-bottom, return-step, tree-goes}
 use Rattle.theorems.proofs.FromMachine.{Within, found, goes-on, Value, value-within}

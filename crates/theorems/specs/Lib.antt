@@ -1,3 +1,5 @@
 pub mod Unlimited
+pub mod Limits
+pub mod Outcomes
 pub mod Early
 pub mod Theorems

@@ -4,74 +4,25 @@ use mathlib.Core.Path.{_≡_}
 use mathlib.Core.Logic.{_⊎_, _↔_}
 use mathlib.Core.Bool.{true, false}
 use mathlib.Core.List.{List}
-use Prim.Native.Nat.{ℕ, suc, _+_, _*_, _≤_, _<_}
-use lib.ListN.{length}
-use Rattle.meaning.specs.Numbers.{HALT, FUEL, DEEP, STUCK, most-height, instruction-words, work-words}
+use Prim.Native.Nat.{ℕ, suc, _+_, _*_, _≤_}
+use Rattle.meaning.specs.Numbers.{HALT, FUEL, DEEP, STUCK}
 use Rattle.meaning.specs.Text.{fine}
 use Rattle.meaning.specs.Terms.{Program}
 use Rattle.meaning.specs.Check.{check}
-use Rattle.meaning.specs.Code.{translation}
-use Rattle.meaning.specs.Machine.{State, Next, next, ended, run-program}
+use Rattle.meaning.specs.Machine.{State, next, ended, run-program}
 use Rattle.meaning.specs.Rewriting.{Closed, Reaches, entry-call}
-use Rattle.meaning.specs.Answers.{fitting, check-answer, check-heads, translate-answer, translate-code, run-answer, run-code, run-work}
+use Rattle.meaning.specs.Answers.{fitting, run-answer}
 use Rattle.meaning.specs.declared.Head.{Head}
 use Rattle.meaning.specs.declared.Checked.{Checked}
 use Rattle.meaning.specs.declared.Answer.{Answer}
-use Rattle.theorems.specs.Unlimited.{machine-after, rewrites-after, calls-after, returns-after, waiting-lookups-after, has-stopped, value-of, data-height, return-height, environment-height}
+use Rattle.theorems.specs.Unlimited.{machine-after, calls-after, returns-after, waiting-lookups-after, has-stopped, return-height, environment-height}
+use Rattle.theorems.specs.Limits.{Passes, Stops, StopsInLimits, MeetsStepLimit, MeetsHeightLimit}
+use Rattle.theorems.specs.Outcomes.{CheckAllows, TranslateAllows, RunAllows, Admitted}
 use Rattle.theorems.specs.Early.{early}
 
--- The words of the statements.
-
--- "18 n² + 12 n + 2"
+-- Demand 3's bound on the steps that n rewrites take.
 unfoldable pub bound : ℕ → ℕ
 bound n = 18 * (n * n) + 12 * n + 2
-
--- "a step would make a stack 513 high"
-abbrev pub first-too-high : ℕ
-first-too-high = most-height + 1
-
--- In the first n steps of the machine without limits neither stack passes 512.
-abbrev pub LowUntil : Program → List ℕ → ℕ → Type 0
-LowUntil P args n = (k : ℕ) (s : State) → k ≤ n → machine-after P args k ≡ next s → (data-height s ≤ most-height) × (return-height s ≤ most-height)
-
--- Somewhere it really passes 512.
-pub record Passes (P : Program) (args : List ℕ) : Type 0 where
-  pub after : ℕ
-  pub there : State
-  pub made : machine-after P args after ≡ next there
-  pub high : (most-height < data-height there) ⊎ (most-height < return-height there)
-
--- The machine without limits stops after so many steps and rewrites, with the value v.
-pub record Stops (P : Program) (args : List ℕ) (v steps rewrites : ℕ) : Type 0 where
-  pub there : State
-  pub made : machine-after P args steps ≡ next there
-  pub stopped : has-stopped there ≡ true
-  pub its-value : value-of there ≡ v
-  pub rewritten : rewrites-after P args steps ≡ rewrites
-
--- It stops before it meets a limit.
-pub record StopsInLimits (P : Program) (args : List ℕ) (limit v steps rewrites : ℕ) : Type 0 where
-  pub stops : Stops P args v steps rewrites
-  pub in-steps : steps ≤ limit
-  pub low : LowUntil P args steps
-
--- It has made `limit` steps and has not stopped, no stack having passed 512 before.
-pub record MeetsStepLimit (P : Program) (args : List ℕ) (limit steps rewrites : ℕ) : Type 0 where
-  pub all-made : steps ≡ limit
-  pub there : State
-  pub made : machine-after P args steps ≡ next there
-  pub not-stopped : has-stopped there ≡ false
-  pub rewritten : rewrites-after P args steps ≡ rewrites
-  pub low : LowUntil P args steps
-
--- Its next step makes the data or the return stack 513 high, and the limit is not met.
-pub record MeetsHeightLimit (P : Program) (args : List ℕ) (limit steps rewrites : ℕ) : Type 0 where
-  pub in-steps : steps < limit
-  pub there : State
-  pub made : machine-after P args (suc steps) ≡ next there
-  pub high : (data-height there ≡ first-too-high) ⊎ (return-height there ≡ first-too-high)
-  pub rewritten : rewrites-after P args steps ≡ rewrites
-  pub low : LowUntil P args steps
 
 -- 1. `halts-right`. "The engine halts with a value only if leftmost rewriting of the entry call reaches that value", and in the rewrites that it reports.
 -- Rules out: a Run that answers one value, a value found another way, invented rewrite counts.
@@ -102,7 +53,7 @@ InTime =
     → ((steps : ℕ) × (steps ≤ bound n) × (run-program P args limit ≡ ended HALT v steps n))
     ⊎ ((steps rewrites : ℕ) × (run-program P args limit ≡ ended DEEP 0 steps rewrites) × Passes P args)
 
--- `machine-agrees`. The paper's theorem, rewrites counted: the machine without limits stops with v after n rewrites exactly where leftmost rewriting
+-- `machine-agrees`. What both demands rest on, the paper's theorem with the rewrites counted: the machine without limits stops with v after n rewrites exactly where leftmost rewriting
 -- reaches v in n, and then within the bound.
 abbrev pub MachineAgrees : Type 0
 MachineAgrees =
@@ -138,21 +89,8 @@ Height =
     → (return-height s + returns-after P args n ≡ 1 + calls-after P args n + waiting-lookups-after P args n)
     × (environment-height s ≡ return-height s)
 
--- 7. `one-outcome`. What the contracts of Check, Translate and Run allow: an answer and what the lent slices hold afterwards.
-pub record CheckAllows (text : List ℕ) (heads : List Head) (answer : Checked) (heads-after : List Head) : Type 0 where
-  pub answered : answer ≡ check-answer text (length heads)
-  pub written : heads-after ≡ check-heads text heads
-
-pub record TranslateAllows (text code : List ℕ) (answer : Checked) (code-after : List ℕ) : Type 0 where
-  pub answered : answer ≡ translate-answer text (length code)
-  pub written : code-after ≡ translate-code text code
-
-pub record RunAllows (text args : List ℕ) (limit : ℕ) (code work : List ℕ) (answer : Answer) (code-after work-after : List ℕ) : Type 0 where
-  pub answered : answer ≡ run-answer text args limit (length code) (length work)
-  pub written : code-after ≡ run-code text args code (length work)
-  pub cleared : work-after ≡ run-work text args (length code) work
-
--- Two outcomes that they allow for one input are equal, in every field, word and head.
+-- 7. `one-outcome`. Two outcomes that the contracts of Check, Translate and Run allow for one input are equal, in every answer field and every lent word and
+-- head. Rules out: a Check or Translate that writes nothing, an answer field or a lent word left open.
 abbrev pub OneOutcome : Type 0
 OneOutcome =
     ((text : List ℕ) (heads : List Head) (a b : Checked) (x y : List Head) → CheckAllows text heads a x → CheckAllows text heads b y → (a ≡ b) × (x ≡ y))
@@ -162,14 +100,7 @@ OneOutcome =
 
 -- 8. The demands once more, from the bytes of a text to the fields of Run's answer; `code` and `work` are the lengths of the lent slices.
 
--- "an accepted text, fitting arguments and enough memory"
-pub record Admitted (text args : List ℕ) (code work : ℕ) (P : Program) : Type 0 where
-  pub accepted : check text ≡ fine P
-  pub fits : fitting P args ≡ true
-  pub code-room : instruction-words * length (translation P) ≤ code
-  pub work-room : work-words ≤ work
-
--- `run-halts-right`.
+-- `run-halts-right`. Demand 2, the value: an answer 0 has the value and the rewrites of leftmost rewriting.
 abbrev pub RunHaltsRight : Type 0
 RunHaltsRight =
     (text args : List ℕ) (limit code work : ℕ) →
@@ -177,7 +108,8 @@ RunHaltsRight =
     answer .number ≡ 0
     → (P : Program) × Admitted text args code work P × Reaches P (entry-call P args) (answer .rewrites) (answer .value)
 
--- `run-limits-are-the-machines`.
+-- `run-limits-are-the-machines`. Demand 2, the limits: the answers 9, 10 and 0 are given exactly where the machine meets its step limit, meets its height
+-- limit, or stops first, with its steps and rewrites.
 abbrev pub RunLimitsAreTheMachines : Type 0
 RunLimitsAreTheMachines =
     (text args : List ℕ) (limit code work steps rewrites : ℕ) →
@@ -187,7 +119,7 @@ RunLimitsAreTheMachines =
     × ((v : ℕ) → ((answer .number ≡ 0) × (answer .value ≡ v) × (answer .steps ≡ steps) × (answer .rewrites ≡ rewrites))
     ↔ ((P : Program) × Admitted text args code work P × StopsInLimits P args limit v steps rewrites))
 
--- `run-in-time`.
+-- `run-in-time`. Demand 3.
 abbrev pub RunInTime : Type 0
 RunInTime =
     (text args : List ℕ) (limit code work n v : ℕ) (P : Program) → Admitted text args code work P
@@ -196,11 +128,11 @@ RunInTime =
     ((answer .number ≡ 0) × (answer .value ≡ v) × (answer .rewrites ≡ n) × (answer .steps ≤ bound n))
     ⊎ ((answer .number ≡ 10) × Passes P args)
 
--- `run-never-stuck`.
+-- `run-never-stuck`. No text, arguments, limit and memory lead to the answer 11.
 abbrev pub RunNeverStuck : Type 0
 RunNeverStuck = (text args : List ℕ) (limit code work : ℕ) → run-answer text args limit code work .number ≡ 11 → ⊥
 
--- `early-refuted`. Demand 2 would be false of a rewriting that works waiting arguments out early: no run could be right by both.
+-- `early-refuted`. The first statement is false of a rewriting that works waiting arguments out early (specs/Early.antt).
 abbrev pub EarlyRefuted : Type 0
 EarlyRefuted =
     ((text : List ℕ) (P : Program) (args : List ℕ) (limit v steps rewrites : ℕ) → check text ≡ fine P → fitting P args ≡ true

@@ -7,13 +7,14 @@ use Prim.Native.Nat.{ℕ, zero, suc, _+_}
 use lib.ListN.{length, getElem?}
 use Rattle.meaning.specs.Terms.{Program}
 use Rattle.meaning.specs.Code.{Instruction, EVAL, EXEC, SELECT, CALL, RET, entrance, initial, translation}
-use Rattle.meaning.specs.Machine.{Slot, value, waiting, Environment, Place, stop, at, State, state, Next, next, no-step, obey, rewrites, start, top}
+use Rattle.meaning.specs.Machine.{Slot, value, waiting, Environment, stop, at, State, state, Next, next, no-step, obey, rewrites, start, top}
 
 -- One step; a machine that has stopped makes none.
 unfoldable pub step : (ℕ → Option Instruction) → State → Next
 step code (state stop rs ds es) = no-step
 step code (state (at a) rs ds es) = obey (code a) rs ds es
 
+-- What follows of a step: `otherwise` where there was none.
 unfoldable pub from-next : {A : Type 0} → Next → A → (State → A) → A
 from-next no-step otherwise go-on = otherwise
 from-next (next s) otherwise go-on = go-on s
@@ -28,15 +29,18 @@ unfoldable pub done-in : (ℕ → Option Instruction) → (State → ℕ) → �
 done-in code done zero s = 0
 done-in code done (suc n) s = from-next (step code s) 0 λ s′. done s + done-in code done n s′
 
--- What the next step does.
+-- The next step of a state.
 
+-- The instruction that it obeys; none once the machine has stopped.
 unfoldable pub instruction-at : (ℕ → Option Instruction) → State → Option Instruction
 instruction-at code (state stop rs ds es) = none
 instruction-at code (state (at a) rs ds es) = code a
 
+-- Whether it is a rewrite, as document 01 counts them: 1 or 0.
 unfoldable pub rewrites-at : (ℕ → Option Instruction) → State → ℕ
 rewrites-at code s = rewrites (instruction-at code s)
 
+-- Whether it is a call.
 unfoldable pub calls : Option Instruction → ℕ
 calls none = 0
 calls (some (EVAL i b)) = 0
@@ -45,9 +49,11 @@ calls (some (SELECT x y)) = 0
 calls (some (CALL a k ws b)) = 1
 calls (some RET) = 0
 
+-- The same from a state.
 unfoldable pub calls-at : (ℕ → Option Instruction) → State → ℕ
 calls-at code s = calls (instruction-at code s)
 
+-- Whether it is a return.
 unfoldable pub returns : Option Instruction → ℕ
 returns none = 0
 returns (some (EVAL i b)) = 0
@@ -56,20 +62,23 @@ returns (some (SELECT x y)) = 0
 returns (some (CALL a k ws b)) = 0
 returns (some RET) = 1
 
+-- The same from a state.
 unfoldable pub returns-at : (ℕ → Option Instruction) → State → ℕ
 returns-at code s = returns (instruction-at code s)
 
--- A waiting lookup is an EVAL that finds a waiting argument in the first frame of the current environment.
+-- A waiting lookup is an EVAL that finds a waiting argument in the first frame of the current environment. Whether what it finds waits:
 unfoldable pub is-waiting : Option Slot → ℕ
 is-waiting none = 0
 is-waiting (some (value v)) = 0
 is-waiting (some (waiting a)) = 1
 
+-- What an EVAL of argument i finds.
 unfoldable pub looked-at : ℕ → List Environment → Option Slot
 looked-at i [] = none
 looked-at i ([] ∷ es) = none
 looked-at i ((f ∷ e) ∷ es) = getElem? f i
 
+-- Whether a step is a waiting lookup.
 unfoldable pub waiting-lookups : Option Instruction → List Environment → ℕ
 waiting-lookups none es = 0
 waiting-lookups (some (EVAL i b)) es = is-waiting (looked-at i es)
@@ -78,49 +87,63 @@ waiting-lookups (some (SELECT x y)) es = 0
 waiting-lookups (some (CALL a k ws b)) es = 0
 waiting-lookups (some RET) es = 0
 
+-- The stack of environments of a state.
 unfoldable pub environments : State → List Environment
 environments (state p rs ds es) = es
 
+-- The same from a state.
 unfoldable pub waiting-lookups-at : (ℕ → Option Instruction) → State → ℕ
 waiting-lookups-at code s = waiting-lookups (instruction-at code s) (environments s)
 
 -- What a state holds.
 
+-- Whether the machine has stopped in it.
 unfoldable pub has-stopped : State → Bool
 has-stopped (state stop rs ds es) = true
 has-stopped (state (at a) rs ds es) = false
 
+-- The value on top of the data stack.
 unfoldable pub value-of : State → ℕ
 value-of (state p rs ds es) = top ds
 
+-- How high the return stack stands,
 unfoldable pub return-height : State → ℕ
 return-height (state p rs ds es) = length rs
 
+-- the data stack,
 unfoldable pub data-height : State → ℕ
 data-height (state p rs ds es) = length ds
 
+-- and the stack of environments.
 unfoldable pub environment-height : State → ℕ
 environment-height (state p rs ds es) = length es
 
--- The same for a program at its argument values, from the start.
+-- A program at its argument values.
 
+-- The code of a program, by address.
 unfoldable pub code-of : Program → ℕ → Option Instruction
 code-of P = getElem? (translation P)
 
+-- The state that it starts in.
 unfoldable pub start-of : Program → List ℕ → State
 start-of P args = start (entrance (initial P) 0) args
 
+-- The state after n steps.
 abbrev pub machine-after : Program → List ℕ → ℕ → Next
 machine-after P args n = state-after (code-of P) n (start-of P args)
 
+-- The rewrites made in n steps,
 abbrev pub rewrites-after : Program → List ℕ → ℕ → ℕ
 rewrites-after P args n = done-in (code-of P) (rewrites-at (code-of P)) n (start-of P args)
 
+-- the calls,
 abbrev pub calls-after : Program → List ℕ → ℕ → ℕ
 calls-after P args n = done-in (code-of P) (calls-at (code-of P)) n (start-of P args)
 
+-- the returns,
 abbrev pub returns-after : Program → List ℕ → ℕ → ℕ
 returns-after P args n = done-in (code-of P) (returns-at (code-of P)) n (start-of P args)
 
+-- and the waiting lookups.
 abbrev pub waiting-lookups-after : Program → List ℕ → ℕ → ℕ
 waiting-lookups-after P args n = done-in (code-of P) (waiting-lookups-at (code-of P)) n (start-of P args)
