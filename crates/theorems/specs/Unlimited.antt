@@ -1,13 +1,18 @@
 -- The machine without limits: document 000's machine, which goes on for as long as there is a next step. Its state after n steps, what it made
 -- on the way, and how high its stacks stand. Assumes nothing.
+use mathlib.Core.Path.{_≡_, refl}
 use mathlib.Core.Bool.{Bool, true, false}
 use mathlib.Core.Option.{Option, none, some}
 use mathlib.Core.List.{List, [], _∷_}
 use Prim.Native.Nat.{ℕ, zero, suc, _+_}
+use Prim.Native.String.{String}
 use lib.ListN.{length, getElem?}
+use Rattle.meaning.specs.Basics.{if_then_else_}
+use Rattle.meaning.specs.Arithmetic.{apply, of-none, of-one, of-two, sum, difference, product, quotient, remainder, equal, less, both, either, opposite}
 use Rattle.meaning.specs.Terms.{Program}
-use Rattle.meaning.specs.Code.{Instruction, EVAL, EXEC, SELECT, CALL, RET, entrance, initial, translation}
-use Rattle.meaning.specs.Machine.{Slot, value, waiting, Environment, stop, at, State, state, Next, next, no-step, obey, rewrites, start, top}
+use Rattle.meaning.specs.Check.{check-text, found}
+use Rattle.meaning.specs.Code.{Instruction, EVAL, EXEC, SELECT, CALL, RET, entrance, initial, translation, translate-text}
+use Rattle.meaning.specs.Machine.{Slot, value, waiting, Environment, stop, at, State, state, Next, next, no-step, taken, look-at, look-up, push-result, execute, choose, enter, call-body, go-back, obey, rewrites, start, top}
 
 -- One step; a machine that has stopped makes none.
 unfoldable pub step : (ℕ → Option Instruction) → State → Next
@@ -147,3 +152,17 @@ returns-after P args n = done-in (code-of P) (returns-at (code-of P)) n (start-o
 -- and the waiting lookups.
 abbrev pub waiting-lookups-after : Program → List ℕ → ℕ → ℕ
 waiting-lookups-after P args n = done-in (code-of P) (waiting-lookups-at (code-of P)) n (start-of P args)
+
+-- After n steps of a text: the value on top once the machine has stopped, then rewrites, calls, waiting lookups and returns.
+unfoldable pub counts-of : String → List ℕ → ℕ → List ℕ
+unfolding translate-text apply of-none of-one of-two sum difference product quotient remainder equal less both either opposite taken look-at look-up push-result execute choose enter call-body go-back obey rewrites start top step from-next state-after done-in instruction-at rewrites-at calls calls-at returns returns-at is-waiting looked-at waiting-lookups environments waiting-lookups-at has-stopped value-of code-of start-of
+counts-of text args n =
+    let P = found (check-text text) in
+    from-next (machine-after P args n) [] λ s.
+    if has-stopped s then value-of s ∷ rewrites-after P args n ∷ calls-after P args n ∷ waiting-lookups-after P args n ∷ returns-after P args n ∷ [] else []
+
+-- DIF 2 and DIF 0 at 3 and 4294967290: both arguments are looked up by value, or wait; the last return stops.
+pub dif-counts : counts-of "DIF\t2\tnn\tn\t-\ta\tb\n" (3 ∷ 4294967290 ∷ []) 8 ∷ counts-of "DIF\t0\tnn\tn\t-\ta\tb\n" (3 ∷ 4294967290 ∷ []) 10 ∷ []
+    ≡ (9 ∷ 2 ∷ 1 ∷ 0 ∷ 2 ∷ []) ∷ (9 ∷ 2 ∷ 1 ∷ 2 ∷ 4 ∷ []) ∷ []
+unfolding counts-of
+dif-counts = refl
