@@ -1,3 +1,4 @@
+-- The statements, in Theorems, and the words that they use beside those of `meaning`. Assumes nothing.
 pub mod Unlimited
 pub mod Limits
 pub mod Outcomes
