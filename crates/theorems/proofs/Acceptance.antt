@@ -105,12 +105,14 @@ if-sort-takes s (takes S′ r′) {S} {r} e = of (same-sort r′ s) refl e
     of true h k = let u : S′ ≡ S = cc in let w : r′ ≡ s = same-sort-same r′ s h in cc
     of false h k = clash (cc)
 
-got-with : (H : List Line) (y : Symbol) (x : Read Terms) {t : Term} {r : List Symbol} → with-arguments H y x ≡ got t r → (ts : Terms) × (x ≡ got ts r) × (t ≡ applied H y ts)
+got-with : (H : List Line) (y : Symbol) (x : Read Terms) {t : Term} {r : List Symbol} → with-arguments H y x ≡ got t r
+    → (ts : Terms) × (x ≡ got ts r) × (t ≡ applied H y ts)
 unfolding with-arguments
 got-with H y (got ts ys) {t} {r} e = let same : ys ≡ r = cc in (ts, ap (got ts) same, cc)
 got-with H y (fault w ys) e = clash (cc)
 
-got-taken : (H : List Line) (y : Symbol) (x : Takes) (here : List Symbol) (row : List Sort → Read Terms) {t : Term} {r : List Symbol} → read-taken H y x here row ≡ got t r
+got-taken : (H : List Line) (y : Symbol) (x : Takes) (here : List Symbol) (row : List Sort → Read Terms) {t : Term} {r : List Symbol}
+    → read-taken H y x here row ≡ got t r
     → (S : List Sort) × (s : Sort) × (ts : Terms) × (x ≡ takes S s) × (row S ≡ got ts r) × (t ≡ applied H y ts)
 unfolding read-taken
 got-taken H y (takes S s) here row e = let p = got-with H y (row S) e in (S, s, p .0, refl, p .1, p .2)
@@ -172,10 +174,12 @@ module _ (P : Program) (G : List Sort) where
   condition-sorted (cons t (cons x (cons y (cons z ts)))) s h = absurd (h .1 .1 .1)
 
   abbrev ReadsSorted : (Sort → List Symbol → Read Term) → Type 0
-  ReadsSorted one = (s : Sort) (ys : List Symbol) (t : Term) (r : List Symbol) → symbols-right ys → one s ys ≡ got t r → sorted P t G s × symbols-right r
+  ReadsSorted one =
+      (s : Sort) (ys : List Symbol) (t : Term) (r : List Symbol) → symbols-right ys → one s ys ≡ got t r → sorted P t G s × symbols-right r
 
   row-reads-sorted : (one : Sort → List Symbol → Read Term) → ReadsSorted one
-      → (S : List Sort) (ys : List Symbol) (ts : Terms) (r : List Symbol) → symbols-right ys → read-row one S ys ≡ got ts r → row-sorted P ts G S × symbols-right r
+      → (S : List Sort) (ys : List Symbol) (ts : Terms) (r : List Symbol) → symbols-right ys → read-row one S ys ≡ got ts r
+      → row-sorted P ts G S × symbols-right r
   unfolding read-row row-sorted
   row-reads-sorted one ok [] ys ts r right e =
       let none-read : nil ≡ ts = cc in
@@ -188,7 +192,8 @@ module _ (P : Program) (G : List Sort) where
       (subst (λ z. row-sorted P z G (s ∷ S)) (sym (p .5)) (t-sorted .0, rest .0), rest .1)
 
   module _ (H : List Line) (matching : AllMatch H P) where
-    applied-sorted : (y : Symbol) (s : Sort) (S : List Sort) (ts : Terms) → symbol-right y → takes-of H G s y ≡ takes S s → row-sorted P ts G S → sorted P (applied H y ts) G s
+    applied-sorted : (y : Symbol) (s : Sort) (S : List Sort) (ts : Terms) → symbol-right y → takes-of H G s y ≡ takes S s → row-sorted P ts G S
+        → sorted P (applied H y ts) G s
     unfolding takes-of applied sorted strict-of symbol-right
     applied-sorted (argument i) s S ts right e h = argument-has (getElem? G i) e
     applied-sorted (operation o) s S ts right e h =
@@ -227,7 +232,8 @@ reads-body H h = read-term H (h .sorts) most-depth (h .result) (map (symbol (map
 
 data Bodies (H : List Line) : List Line → Program → Type 0 where
   no-body : Bodies H [] []
-  one-body : {h : Line} {F : Function} {hs : List Line} {P : Program} → Matches h F → reads-body H h ≡ got (F .body) [] → Bodies H hs P → Bodies H (h ∷ hs) (F ∷ P)
+  one-body : {h : Line} {F : Function} {hs : List Line} {P : Program} → Matches h F → reads-body H h ≡ got (F .body) [] → Bodies H hs P
+      → Bodies H (h ∷ hs) (F ∷ P)
 
 nothing-left : (x : Read Term) {t : Term} {r : List Symbol} → nothing-after x ≡ got t r → x ≡ got t []
 unfolding nothing-after
@@ -235,12 +241,18 @@ nothing-left (got t []) {t = u} e = let same : t ≡ u = cc in ap (λ z. got z [
 nothing-left (got t (y ∷ ys)) e = clash (cc)
 nothing-left (fault w ys) e = clash (cc)
 
-function-fine : (l : ℕ) (h : Line) (x : Read Term) {F : Function} → function-of l h x ≡ fine F → Matches h F × (r : List Symbol) × (x ≡ got (F .body) r)
+function-fine : (l : ℕ) (h : Line) (x : Read Term) {F : Function} → function-of l h x ≡ fine F
+    → Matches h F × (r : List Symbol) × (x ≡ got (F .body) r)
 unfolding function-of
 function-fine l h (fault w ys) e = clash (cc)
 function-fine l h (got t ys) {F} e =
     let same : record { sorts = h .sorts; strict = h .strict; result = h .result; body = t } ≡ F = fine-same e in
-    (record { sorts-match = sym (ap (λ z. z .sorts) same); strict-match = sym (ap (λ z. z .strict) same); result-match = sym (ap (λ z. z .result) same) }, ys, ap (λ (z : Function). got (z .body) ys) same)
+    let matches : Matches h F = record {
+      sorts-match = sym (ap (λ z. z .sorts) same);
+      strict-match = sym (ap (λ z. z .strict) same);
+      result-match = sym (ap (λ z. z .result) same);
+    } in
+    (matches, ys, ap (λ (z : Function). got (z .body) ys) same)
 
 bodies-fine : (H : List Line) (l : ℕ) (hs : List Line) (P : Program) → read-bodies H l hs ≡ fine P → Bodies H hs P
 unfolding read-bodies read-body
@@ -285,7 +297,8 @@ initial-sorted F P h =
       refl,
       refl,
       own-sorted (F ∷ P) S k 0 (omega arith),
-      subst (λ Z. row-sorted (F ∷ P) (own (length S - k) k) S Z) (take-all (length S - k) (drop k S) (omega (arith, length-drop k S))) (own-sorted (F ∷ P) S (length S - k) k (omega arith)),
+      subst (row-sorted (F ∷ P) (own (length S - k) k) S) (take-all (length S - k) (drop k S) (omega (arith, length-drop k S)))
+          (own-sorted (F ∷ P) S (length S - k) k (omega arith)),
     )
 
 -- Fitting arguments are of the entry's sorts.

@@ -69,9 +69,11 @@ module _ {P : Program} where
     tree-leads (operation k ds h) = counted (omega arith) (op-leads (row-tree-leads ds) h)
     tree-leads (yes-branch d d′) = counted (omega arith) (yes-leads (tree-leads d) (tree-leads d′))
     tree-leads (no-branch d d′) = counted (omega arith) (no-leads (tree-leads d) (tree-leads d′))
-    tree-leads (body {e = e} {ws = ws} {vs = vs} k ds h d) = counted (omega arith) (call-leads (row-tree-leads ds) h (rw (call-frame-read vs ws (chain-read e)) at (tree-leads d)))
+    tree-leads (body {e = e} {ws = ws} {vs = vs} k ds h d) =
+        counted (omega arith) (call-leads (row-tree-leads ds) h (rw (call-frame-read vs ws (chain-read e)) at (tree-leads d)))
 
-    row-tree-leads : {e : Chain} {ts : Terms} {vs : List ℕ} (ds : Row P e ts vs) → RowLeads P (put-all-in ts (chain-read e)) (row-cost ds .rewrites) vs
+    row-tree-leads : {e : Chain} {ts : Terms} {vs : List ℕ} (ds : Row P e ts vs)
+        → RowLeads P (put-all-in ts (chain-read e)) (row-cost ds .rewrites) vs
     row-tree-leads done = row-arrived refl
     row-tree-leads (then d ds) = row-leads (tree-leads d) (row-tree-leads ds)
 
@@ -88,9 +90,11 @@ module _ (P : Program) where
   Found e t s n v = (d : Tree P e t v) × (cost d .rewrites ≡ n) × of-sort s v
 
   abbrev FoundBelow : ℕ → Type 0
-  FoundBelow N = (e : Chain) (t : Term) (G : List Sort) (s : Sort) (n v : ℕ) → n < N → chain-sorted P e G → sorted P t G s → Leads P (put-in t (chain-read e)) n v → Found e t s n v
+  FoundBelow N =
+      (e : Chain) (t : Term) (G : List Sort) (s : Sort) (n v : ℕ) → n < N → chain-sorted P e G → sorted P t G s → Leads P (put-in t (chain-read e)) n v → Found e t s n v
 
-  row-found : (N : ℕ) → FoundBelow N → (e : Chain) (ts : Terms) (G S : List Sort) (m : ℕ) (us : List ℕ) → m < N → chain-sorted P e G → row-sorted P ts G S → RowLeads P (put-all-in ts (chain-read e)) m us
+  row-found : (N : ℕ) → FoundBelow N → (e : Chain) (ts : Terms) (G S : List Sort) (m : ℕ) (us : List ℕ) → m < N → chain-sorted P e G
+      → row-sorted P ts G S → RowLeads P (put-all-in ts (chain-read e)) m us
       → (ds : Row P e ts us) × (row-cost ds .rewrites ≡ m) × of-sorts S us
   unfolding cost row-sorted put-in of-sorts
   row-found N below e nil G [] m us lt ok ft r = let p = no-parts r in rw (p .0, p .1) (done, refl, tt)
@@ -102,20 +106,23 @@ module _ (P : Program) where
       let ds = row-found N below e ts G S (q .1) (q .3) (omega (arith, q .4)) ok (ft .1) (q .7) in
       rw (q .5) (then (d .0) (ds .0), omega (arith, q .4, d .1, ds .1), (d .2, ds .2))
 
-  entry-found : (vs : List ℕ) (G : List Sort) (s : Sort) (n v i : ℕ) → of-sorts G vs → getElem? G i ≡ some s → Leads P (argument (vals vs) i) n v → Found (bottom vs) (arg i) s n v
+  entry-found : (vs : List ℕ) (G : List Sort) (s : Sort) (n v i : ℕ) → of-sorts G vs → getElem? G i ≡ some s → Leads P (argument (vals vs) i) n v
+      → Found (bottom vs) (arg i) s n v
   unfolding cost
   entry-found vs G s n v i ok ft r =
       let p = value-there G vs i ok ft in
       let q = value-parts r (entry-read vs i (p .1)) in
       (entry-argument (p .1 ∙ ap some (q .1)), sym (q .0), subst (of-sort s) (q .1) (p .2))
 
-  argument-found : (f : List Argument) (e : Chain) (G S : List Sort) (s : Sort) (n v : ℕ) → frame-sorted P f G S → ((t : Term) → sorted P t G s → Leads P (put-in t (chain-read e)) n v → Found e t s n v)
+  argument-found : (f : List Argument) (e : Chain) (G S : List Sort) (s : Sort) (n v : ℕ) → frame-sorted P f G S
+      → ((t : Term) → sorted P t G s → Leads P (put-in t (chain-read e)) n v → Found e t s n v)
       → (i : ℕ) → getElem? S i ≡ some s → Leads P (argument (frame-read f (chain-read e)) i) n v → Found (push f e) (arg i) s n v
   unfolding cost argument-sorted
   argument-found f e G S s n v ok shorter i ft r = let p = argument-there P f G S i ok ft in go (p .0) (p .1) (p .2)
     where
       go : (x : Argument) → getElem? f i ≡ some x → argument-sorted P x G s → Found (push f e) (arg i) s n v
-      go (given x) h k = let q = value-parts r (given-read f (chain-read e) i h) in (value-argument (h ∙ ap (λ y. some (given y)) (q .1)), sym (q .0), subst (of-sort s) (q .1) k)
+      go (given x) h k =
+          let q = value-parts r (given-read f (chain-read e) i h) in (value-argument (h ∙ ap (λ y. some (given y)) (q .1)), sym (q .0), subst (of-sort s) (q .1) k)
       go (waits t) h k = let q = shorter t k (rw (waits-read f (chain-read e) i h) at r) in (waiting-argument h (q .0), omega (arith, q .1), q .2)
 
   module _ (ok-P : Sorted P) (N : ℕ) (below : FoundBelow N) where
@@ -156,7 +163,8 @@ module _ (P : Program) where
           subst (λ x. of-sort x v) (ft .2) (d .2),
         )
 
-    chain-found : (e : Chain) (t : Term) (G : List Sort) (s : Sort) (n v : ℕ) → n ≤ N → chain-sorted P e G → sorted P t G s → Leads P (put-in t (chain-read e)) n v → Found e t s n v
+    chain-found : (e : Chain) (t : Term) (G : List Sort) (s : Sort) (n v : ℕ) → n ≤ N → chain-sorted P e G → sorted P t G s
+        → Leads P (put-in t (chain-read e)) n v → Found e t s n v
     unfolding chain-sorted chain-read cost
     chain-found (bottom vs) t G s n v le ok ft r = term-found (bottom vs) t G s n v le ok ft (λ i. entry-found vs G s n v i ok) r
     chain-found (push f e) t G s n v le ok ft r =
@@ -166,7 +174,8 @@ module _ (P : Program) where
   found-below ok-P zero e t G s n v lt = absurd (omega arith)
   found-below ok-P (suc N) e t G s n v lt = chain-found ok-P N (found-below ok-P N) e t G s n v (omega arith)
 
-  pub tree-found : Sorted P → (vs : List ℕ) (t : Term) (G : List Sort) (s : Sort) {n v : ℕ} → of-sorts G vs → sorted P t G s → Leads P (put-in t (vals vs)) n v
+  pub tree-found : Sorted P → (vs : List ℕ) (t : Term) (G : List Sort) (s : Sort) {n v : ℕ} → of-sorts G vs → sorted P t G s
+      → Leads P (put-in t (vals vs)) n v
       → (d : Tree P (bottom vs) t v) × (cost d .rewrites ≡ n)
   unfolding chain-sorted chain-read
   tree-found ok-P vs t G s {n} {v} ok ft r = let p = found-below ok-P (suc n) (bottom vs) t G s n v (omega arith) ok ft r in (p .0, p .1)

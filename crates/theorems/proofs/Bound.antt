@@ -65,9 +65,11 @@ module _ {P : Program} where
     waitings-most (no-branch d d′) = joined _ _ (waitings-most d) (waitings-most d′) (omega arith) (omega arith) (omega arith)
     waitings-most (body k ds h d) = joined _ _ (row-waitings-most ds) (waitings-most d) (omega arith) (omega arith) (omega arith)
 
-    row-waitings-most : {e : Chain} {ts : Terms} {vs : List ℕ} (ds : Row P e ts vs) → row-cost ds .waitings ≤ (9 * row-cost ds .rewrites + count ts) * (depth e + row-cost ds .rewrites)
+    row-waitings-most : {e : Chain} {ts : Terms} {vs : List ℕ} (ds : Row P e ts vs)
+        → row-cost ds .waitings ≤ (9 * row-cost ds .rewrites + count ts) * (depth e + row-cost ds .rewrites)
     row-waitings-most done = omega arith
-    row-waitings-most (then d ds) = le-trans (add-le-add (waitings-most d) (row-waitings-most ds)) (under _ _ (omega arith) (omega arith) (omega arith))
+    row-waitings-most (then d ds) =
+        le-trans (add-le-add (waitings-most d) (row-waitings-most ds)) (under _ _ (omega arith) (omega arith) (omega arith))
 
   -- From the start, in one frame, and with the step that stops.
   pub steps-most : {vs : List ℕ} {t : Term} {v : ℕ} (d : Tree P (bottom vs) t v) → steps (cost d) + 1 ≤ bound (cost d .rewrites)

@@ -27,7 +27,8 @@ module _ {code : ℕ → Option Instruction} where
   go h k f ▸ g = timed (go h k (f ▸ g)) (omega arith) (omega arith)
 
   -- A step of the machine begins a course.
-  pub stepped : (a : ℕ) (rs : List Place) (ds : List ℕ) (es : List Environment) {s s′ : State} {m q : ℕ} → obey (code a) rs ds es ≡ next s → Goes code s m q s′
+  pub stepped : (a : ℕ) (rs : List Place) (ds : List ℕ) (es : List Environment) {s s′ : State} {m q : ℕ} → obey (code a) rs ds es ≡ next s
+      → Goes code s m q s′
       → Goes code (state (at a) rs ds es) (suc m) (rewrites (code a) + q) s′
   unfolding obey
   stepped a rs ds es {s} {s′} {m} {q} e g = of (code a) refl
@@ -37,7 +38,8 @@ module _ {code : ℕ → Option Instruction} where
       of (some i) h = timed (go h (sym (ap (λ x. obey x rs ds es) h) ∙ e) g) refl (omega (arith, ap rewrites h))
 
   -- The machine is deterministic: a shorter course is the beginning of a longer one.
-  pub begins : {s s₁ s₂ : State} {n m r q : ℕ} → Goes code s n r s₁ → Goes code s m q s₂ → n ≤ m → (k j : ℕ) × (m ≡ n + k) × (q ≡ r + j) × Goes code s₁ k j s₂
+  pub begins : {s s₁ s₂ : State} {n m r q : ℕ} → Goes code s n r s₁ → Goes code s m q s₂ → n ≤ m
+      → (k j : ℕ) × (m ≡ n + k) × (q ≡ r + j) × Goes code s₁ k j s₂
   begins {m = m} {q = q} stay g l = (m, q, omega arith, omega arith, g)
   begins (go h k f) stay l = absurd (omega arith)
   begins {s₁ = s₁} {s₂ = s₂} (go {i = i} {s = s} {n = n} {r = r} h k f) (go {i = i′} {s = s′} {n = m} {r = q} h′ k′ f′) l =
@@ -46,11 +48,13 @@ module _ {code : ℕ → Option Instruction} where
       let p = begins f (subst (λ x. Goes code x m q s₂) there f′) (omega arith) in
       (p .0, p .1, omega (arith, p .2), omega (arith, p .3, ap (λ x. rewrites (some x)) same), p .4)
 
-  from-stop : {rs : List Place} {ds : List ℕ} {es : List Environment} {n r : ℕ} {s : State} → Goes code (state stop rs ds es) n r s → (n ≡ 0) × (r ≡ 0) × (s ≡ state stop rs ds es)
+  from-stop : {rs : List Place} {ds : List ℕ} {es : List Environment} {n r : ℕ} {s : State} → Goes code (state stop rs ds es) n r s
+      → (n ≡ 0) × (r ≡ 0) × (s ≡ state stop rs ds es)
   from-stop stay = (refl, refl, refl)
 
   -- It stops once.
-  pub stops-once : {s : State} {n m r q : ℕ} {rs rs′ : List Place} {ds ds′ : List ℕ} {es es′ : List Environment} → Goes code s n r (state stop rs ds es) → Goes code s m q (state stop rs′ ds′ es′)
+  pub stops-once : {s : State} {n m r q : ℕ} {rs rs′ : List Place} {ds ds′ : List ℕ} {es es′ : List Environment}
+      → Goes code s n r (state stop rs ds es) → Goes code s m q (state stop rs′ ds′ es′)
       → (n ≡ m) × (r ≡ q) × (state stop rs ds es ≡ state stop rs′ ds′ es′)
   stops-once {n = n} {m = m} f g =
       elim (decLe n m) [
@@ -59,7 +63,8 @@ module _ {code : ℕ → Option Instruction} where
       ]
 
   -- Having stopped it goes no further, and a state that it goes on from has a next step.
-  pub not-past-stop : {s s′ : State} {n m r q : ℕ} {rs : List Place} {ds : List ℕ} {es : List Environment} → Goes code s n r (state stop rs ds es) → Goes code s m q s′ → suc n ≤ m → ⊥
+  pub not-past-stop : {s s′ : State} {n m r q : ℕ} {rs : List Place} {ds : List ℕ} {es : List Environment} → Goes code s n r (state stop rs ds es)
+      → Goes code s m q s′ → suc n ≤ m → ⊥
   not-past-stop f g l = let p = begins f g (omega arith) in let z = from-stop (p .4) in omega (arith, p .2, z .0)
 
   pub has-step : {a k j : ℕ} {rs : List Place} {ds : List ℕ} {es : List Environment} {s : State} → Goes code (state (at a) rs ds es) k j s → 0 < k
@@ -67,7 +72,8 @@ module _ {code : ℕ → Option Instruction} where
   has-step stay l = absurd (omega arith)
   has-step {rs = rs} {ds = ds} {es = es} (go {s = s} h o f) l = (s, ap (λ x. obey x rs ds es) h ∙ o)
 
-  pub before-stop : {s : State} {n m r q a : ℕ} {rs rs′ : List Place} {ds ds′ : List ℕ} {es es′ : List Environment} → Goes code s n r (state stop rs ds es)
+  pub before-stop : {s : State} {n m r q a : ℕ} {rs rs′ : List Place} {ds ds′ : List ℕ} {es es′ : List Environment}
+      → Goes code s n r (state stop rs ds es)
       → Goes code s m q (state (at a) rs′ ds′ es′) → m < n
   before-stop {n = n} {m = m} f g =
       elim (decLe n m) [
@@ -75,10 +81,12 @@ module _ {code : ℕ → Option Instruction} where
         | no l ↦ omega arith
       ]
     where
-      apart : {A : Type 0} {x : ℕ} {rs rs′ : List Place} {ds ds′ : List ℕ} {es es′ : List Environment} → state (at x) rs ds es ≡ state stop rs′ ds′ es′ → A
+      apart : {A : Type 0} {x : ℕ} {rs rs′ : List Place} {ds ds′ : List ℕ} {es es′ : List Environment}
+          → state (at x) rs ds es ≡ state stop rs′ ds′ es′ → A
       apart e = clash (cc)
 
-  pub has-step-before-stop : {s : State} {n m r q a : ℕ} {rs rs′ : List Place} {ds ds′ : List ℕ} {es es′ : List Environment} → Goes code s n r (state stop rs ds es)
+  pub has-step-before-stop : {s : State} {n m r q a : ℕ} {rs rs′ : List Place} {ds ds′ : List ℕ} {es es′ : List Environment}
+      → Goes code s n r (state stop rs ds es)
       → Goes code s m q (state (at a) rs′ ds′ es′) → (s′ : State) × (obey (code a) rs′ ds′ es′ ≡ next s′)
   has-step-before-stop f g =
       let l = before-stop f g in

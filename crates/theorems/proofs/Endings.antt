@@ -16,7 +16,8 @@ use Rattle.theorems.proofs.Courses.{Goes, stay, timed, _▸_, stepped, 
 use Rattle.theorems.proofs.Limits.{Low, low-of, not-high-of, too-high-of, just-too-high, run-along, run-stopped, run-fuel, run-deep, Says, halted, fuelled, deepened, jammed, says}
 use Rattle.theorems.proofs.Wholes.{stops-of, stop-course}
 
-above : (s : State) → (data-height s ≡ first-too-high) ⊎ (return-height s ≡ first-too-high) → (most-height < data-height s) ⊎ (most-height < return-height s)
+above : (s : State) → (data-height s ≡ first-too-high) ⊎ (return-height s ≡ first-too-high)
+    → (most-height < data-height s) ⊎ (most-height < return-height s)
 above s (inl h) = inl (omega arith)
 above s (inr h) = inr (omega arith)
 
@@ -36,7 +37,8 @@ module _ (P : Program) (args : List ℕ) where
   run-is limit = refl
 
   run-says : (limit : ℕ) {x : Ending} → run-program P args limit ≡ x → Says (code-of P) limit (start-of P args) 0 0 x
-  run-says limit e = subst (Says (code-of P) limit (start-of P args) 0 0) (sym (run-is limit) ∙ e) (says (code-of P) limit (start-of P args) 0 0 start-low)
+  run-says limit e =
+      subst (Says (code-of P) limit (start-of P args) 0 0) (sym (run-is limit) ∙ e) (says (code-of P) limit (start-of P args) 0 0 start-low)
 
   -- From the ending to the place. (That the value is 0 unless HALT is not used.)
 
@@ -48,7 +50,14 @@ module _ (P : Program) (args : List ℕ) where
       by (fuelled {a = a} {rs = rs} {ds = ds} {es = es} g low h h′) =
           let g′ : Goes (code-of P) (start-of P args) n r (state (at a) rs ds es) = timed g (omega arith) (omega arith) in
           let p = after-of (code-of P) g′ in
-          record { all-made = omega arith; there = state (at a) rs ds es; made = p .0; not-stopped = refl; rewritten = p .1; low = low-until low (omega arith) }
+          record {
+            all-made = omega arith;
+            there = state (at a) rs ds es;
+            made = p .0;
+            not-stopped = refl;
+            rewritten = p .1;
+            low = low-until low (omega arith);
+          }
 
   pub deep-place : (limit : ℕ) {v n r : ℕ} → run-program P args limit ≡ ended DEEP v n r → MeetsHeightLimit P args limit n r
   deep-place limit {v} {n} {r} e = by (run-says limit e)
@@ -58,22 +67,43 @@ module _ (P : Program) (args : List ℕ) where
           let here : Goes (code-of P) (start-of P args) n r (state (at a) rs ds es) = timed g (omega arith) (omega arith) in
           let there : Goes (code-of P) (start-of P args) (suc n) (r + (rewrites (code-of P a) + 0)) s = timed (here ▸ stepped a rs ds es o stay) (omega arith) refl in
           let low-here = low-of (state (at a) rs ds es) (low m (state (at a) rs ds es) (omega arith) (after-of (code-of P) g .0)) in
-          record { in-steps = omega arith; there = s; made = after-of (code-of P) there .0; high = just-too-high (code-of P a) (at a) rs ds es o low-here b; rewritten = after-of (code-of P) here .1; low = low-until low (omega arith) }
+          record {
+            in-steps = omega arith;
+            there = s;
+            made = after-of (code-of P) there .0;
+            high = just-too-high (code-of P a) (at a) rs ds es o low-here b;
+            rewritten = after-of (code-of P) here .1;
+            low = low-until low (omega arith);
+          }
 
   pub halt-place : (limit : ℕ) {v n r : ℕ} → run-program P args limit ≡ ended HALT v n r → StopsInLimits P args limit v n r
   halt-place limit {v} {n} {r} e = by (run-says limit e)
     where
       by : {v : ℕ} → Says (code-of P) limit (start-of P args) 0 0 (ended HALT v n r) → StopsInLimits P args limit v n r
       by (halted g low l t h h′) =
-          record { stops = subst (λ x. Stops P args x n r) (sym t) (stops-of P args (timed g (omega arith) (omega arith))); in-steps = omega arith; low = low-until low (omega arith) }
+          record {
+            stops = subst (λ x. Stops P args x n r) (sym t) (stops-of P args (timed g (omega arith) (omega arith)));
+            in-steps = omega arith;
+            low = low-until low (omega arith);
+          }
 
-  pub stuck-place : (limit : ℕ) {v n r : ℕ} → run-program P args limit ≡ ended STUCK v n r
-      → (m q a : ℕ) × (rs : List Place) × (ds : List ℕ) × (es : List Environment) × Goes (code-of P) (start-of P args) m q (state (at a) rs ds es) × (obey (code-of P a) rs ds es ≡ no-step)
+  -- Somewhere on its course the machine has no next step, and has not stopped.
+  pub record Jams : Type 0 where
+    pub steps : ℕ
+    pub rewrites-made : ℕ
+    pub address : ℕ
+    pub places : List Place
+    pub values : List ℕ
+    pub chains : List Environment
+    pub course : Goes (code-of P) (start-of P args) steps rewrites-made (state (at address) places values chains)
+    pub no-next : obey (code-of P address) places values chains ≡ no-step
+
+  pub stuck-place : (limit : ℕ) {v n r : ℕ} → run-program P args limit ≡ ended STUCK v n r → Jams
   stuck-place limit {v} {n} {r} e = by (run-says limit e)
     where
-      by : {v : ℕ} → Says (code-of P) limit (start-of P args) 0 0 (ended STUCK v n r)
-          → (m q a : ℕ) × (rs : List Place) × (ds : List ℕ) × (es : List Environment) × Goes (code-of P) (start-of P args) m q (state (at a) rs ds es) × (obey (code-of P a) rs ds es ≡ no-step)
-      by (jammed {m = m} {q = q} {a = a} {rs = rs} {ds = ds} {es = es} g o) = (m, q, a, rs, ds, es, g, o)
+      by : {v : ℕ} → Says (code-of P) limit (start-of P args) 0 0 (ended STUCK v n r) → Jams
+      by (jammed {m = m} {q = q} {a = a} {rs = rs} {ds = ds} {es = es} g o) =
+          record { steps = m; rewrites-made = q; address = a; places = rs; values = ds; chains = es; course = g; no-next = o }
 
   -- From the place to the ending.
 
@@ -110,12 +140,14 @@ module _ (P : Program) (args : List ℕ) where
   passes-of {n = n} M = record { after = suc n; there = M .there; made = M .made; high = above (M .there) (M .high) }
 
   -- A run whose limit suffices for the machine to stop halts there, or meets the height limit.
-  pub enough-steps : (limit : ℕ) {v n r : ℕ} → Stops P args v n r → n ≤ limit → (run-program P args limit ≡ ended HALT v n r) ⊎ ((m q : ℕ) × (run-program P args limit ≡ ended DEEP 0 m q))
+  pub enough-steps : (limit : ℕ) {v n r : ℕ} → Stops P args v n r → n ≤ limit
+      → (run-program P args limit ≡ ended HALT v n r) ⊎ ((m q : ℕ) × (run-program P args limit ≡ ended DEEP 0 m q))
   unfolding value-of
   enough-steps limit {v} {n} {r} S l = let c = stop-course P args S in by (c .3) (c .4) (run-says limit refl) refl
     where
       by : {rs : List Place} {ds : List ℕ} {es : List Environment} → Goes (code-of P) (start-of P args) n r (state stop rs ds es) → top ds ≡ v
-          → {x : Ending} → Says (code-of P) limit (start-of P args) 0 0 x → run-program P args limit ≡ x → (run-program P args limit ≡ ended HALT v n r) ⊎ ((m q : ℕ) × (run-program P args limit ≡ ended DEEP 0 m q))
+          → {x : Ending} → Says (code-of P) limit (start-of P args) 0 0 x → run-program P args limit ≡ x
+          → (run-program P args limit ≡ ended HALT v n r) ⊎ ((m q : ℕ) × (run-program P args limit ≡ ended DEEP 0 m q))
       by g t (halted {v = u} {N = N} {R = R} g′ low k t′ h h′) e =
           let one = stops-once g g′ in
           let n-same : N ≡ n = omega (arith, one .0) in

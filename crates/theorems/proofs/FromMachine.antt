@@ -36,26 +36,31 @@ module _ (P : Program) where
   Value e t s = (v : ℕ) × Tree P e t v × of-sort s v
 
 module _ (P : Program) (C : ℕ → Option Instruction) (bodies : List ℕ) (ret : ℕ) where
-  abbrev pub ValueWithin : ℕ → Type 0
-  ValueWithin N = (e : Chain) (t : Term) (G : List Sort) (s : Sort) (a b : ℕ) (E : Environment) (rs : List Place) (ds : List ℕ) (es : List Environment) → chain-sorted P e G → sorted P t G s → holds C bodies ret t a b → ChainFor C bodies ret e E
+  -- A term has its value within N steps, in any chain that it is sorted in and wherever the code holds it.
+  abbrev pub ValueWithin : ℕ → Term → Type 0
+  ValueWithin N t =
+      (e : Chain) (G : List Sort) (s : Sort) (a b : ℕ) (E : Environment) (rs : List Place) (ds : List ℕ) (es : List Environment)
+      → chain-sorted P e G → sorted P t G s → holds C bodies ret t a b → ChainFor C bodies ret e E
       → Within C (Value P e t s) N (state (at (entrance t a)) rs ds (E ∷ es))
 
 module _ {P : Program} {C : ℕ → Option Instruction} {bodies : List ℕ} {ret : ℕ} (L : Loaded P C bodies ret) (ok-P : Sorted P) where
-  module _ (N : ℕ) (fewer : ValueWithin P C bodies ret N) where
-    argument-within : (i : ℕ) (e : Chain) (G : List Sort) (s : Sort) (a b : ℕ) (E : Environment) (rs : List Place) (ds : List ℕ) (es : List Environment) → chain-sorted P e G → getElem? G i ≡ some s → C a ≡ some (EVAL i b) → ChainFor C bodies ret e E
-        → Within C (Value P e (arg i) s) (suc N) (state (at a) rs ds (E ∷ es))
-    unfolding chain-sorted argument-sorted
+  module _ (N : ℕ) (fewer : (t : Term) → ValueWithin P C bodies ret N t) where
+    argument-within : (i : ℕ) → ValueWithin P C bodies ret (suc N) (arg i)
+    unfolding sorted holds entrance chain-sorted argument-sorted
     argument-within i (bottom vs) G s a b E rs ds es ok ft k r = let p = value-there G vs i ok ft in found (p .0, entry-argument (p .1), p .2)
-    argument-within i (push f e) S s a b E rs ds es ok ft k (of-push {s = z} {E = E′} q r) = let p = argument-there P f (ok .0) S i (ok .2) ft in of (p .0) (p .1) (p .2)
+    argument-within i (push f e) S s a b E rs ds es ok ft k (of-push {s = z} {E = E′} q r) =
+        let p = argument-there P f (ok .0) S i (ok .2) ft in of (p .0) (p .1) (p .2)
       where
-        of : (x : Argument) → getElem? f i ≡ some x → argument-sorted P x (ok .0) s → Within C (Value P (push f e) (arg i) s) (suc N) (state (at a) rs ds ((z ∷ E′) ∷ es))
+        of : (x : Argument) → getElem? f i ≡ some x → argument-sorted P x (ok .0) s
+            → Within C (Value P (push f e) (arg i) s) (suc N) (state (at a) rs ds ((z ∷ E′) ∷ es))
         of (given v) h u = found (v, value-argument h, u)
         of (waits t) h u =
             let p = waits-slot q i h in
             after (waiting-step L k (p .1)) (omega arith) (λ w. (w .0, waiting-argument h (w .1), w .2))
-            (fewer e t (ok .0) s (p .0) ret E′ (at b ∷ rs) ds ((z ∷ E′) ∷ es) (ok .1) u (p .2) r)
+            (fewer t e (ok .0) s (p .0) ret E′ (at b ∷ rs) ds ((z ∷ E′) ∷ es) (ok .1) u (p .2) r)
 
-    cond-within : (t x y : Term) (s : Sort) (e : Chain) (a b : ℕ) (E : Environment) (rs : List Place) (ds : List ℕ) (es : List Environment) → holds C bodies ret (cond t x y) a b → ChainFor C bodies ret e E
+    cond-within : (t x y : Term) (s : Sort) (e : Chain) (a b : ℕ) (E : Environment) (rs : List Place) (ds : List ℕ) (es : List Environment)
+        → holds C bodies ret (cond t x y) a b → ChainFor C bodies ret e E
         → (v : ℕ) → Tree P e t v → v < 2
         → Within C (Value P e x s) (suc N) (state (at (entrance x (suc a + size t))) rs ds (E ∷ es))
         → Within C (Value P e y s) (suc N) (state (at (entrance y (suc a + size t + size x))) rs ds (E ∷ es))
@@ -67,8 +72,8 @@ module _ {P : Program} {C : ℕ → Option Instruction} {bodies : List ℕ} {ret
         after (tree-goes L d (suc a) a rs ds es (k .1) r ▸ choose-yes L (k .0)) (omega arith) (λ z. (z .0, yes-branch d (z .1), z .2)) in-x
     cond-within t x y s e a b E rs ds es k r (suc (suc v)) d l in-x in-y = absurd (omega arith)
 
-    call-within : (f : ℕ) (ss ws : Terms) (e : Chain) (G : List Sort) (s : Sort) (a b : ℕ) (E : Environment) (rs : List Place) (ds : List ℕ) (es : List Environment) → chain-sorted P e G
-        → (ft : sorted P (call f ss ws) G s) → holds C bodies ret (call f ss ws) a b → ChainFor C bodies ret e E
+    call-within : (f : ℕ) (ss ws : Terms) (e : Chain) (G : List Sort) (s : Sort) (a b : ℕ) (E : Environment) (rs : List Place) (ds : List ℕ)
+        (es : List Environment) → chain-sorted P e G → (ft : sorted P (call f ss ws) G s) → holds C bodies ret (call f ss ws) a b → ChainFor C bodies ret e E
         → (vs : List ℕ) → Row P e ss vs → of-sorts (unfold sorted in take (ft .0 .strict) (ft .0 .sorts)) vs
         → Within C (Value P e (call f ss ws) s) (suc N) (state (at (row-entrance ss (suc a) a)) rs ds (E ∷ es))
     unfolding sorted holds chain-sorted
@@ -78,15 +83,15 @@ module _ {P : Program} {C : ℕ → Option Instruction} {bodies : List ℕ} {ret
         after (row-goes L q (suc a) a rs ds es (k .1) r ▸ call-step L vs (k .0) (row-length q)) (omega arith)
         (λ z. (z .0, body (few-strict P ok-P f F ss G (ft .1) (ft .3)) q (ft .1) (z .1), subst (λ x. of-sort x (z .0)) (ft .2) (z .2)))
         (rw (← p .1) at
-        (fewer (push (call-frame vs ws) e) (F .body) (F .sorts) (F .result) (p .0) ret ((map value vs ++ map waiting (entrances ws (suc a + sizes ss))) ∷ E) (at b ∷ rs) ds (E ∷ es)
+        (fewer (F .body) (push (call-frame vs ws) e) (F .sorts) (F .result) (p .0) ret
+        ((map value vs ++ map waiting (entrances ws (suc a + sizes ss))) ∷ E) (at b ∷ rs) ds (E ∷ es)
         (G, ok, call-frame-sorted P F vs ws G g (ft .4)) (ok-P f F (ft .1) .1) (p .2)
         (of-push (call-frame-for vs ws (suc a + sizes ss) (k .2)) r)))
 
     mutual
       unfolding sorted holds entrance of-sort of-sorts
 
-      term-within : (t : Term) (e : Chain) (G : List Sort) (s : Sort) (a b : ℕ) (E : Environment) (rs : List Place) (ds : List ℕ) (es : List Environment) → chain-sorted P e G → sorted P t G s → holds C bodies ret t a b → ChainFor C bodies ret e E
-          → Within C (Value P e t s) (suc N) (state (at (entrance t a)) rs ds (E ∷ es))
+      term-within : (t : Term) → ValueWithin P C bodies ret (suc N) t
       term-within (arg i) e G s a b E rs ds es ok ft k r = argument-within i e G s a b E rs ds es ok ft k r
       term-within (op o ts) e G s a b E rs ds es ok ft k r =
           with-it (row-within ts e G (domain o) (suc a) a E rs ds es ok (ft .2) (k .1) r)
@@ -102,7 +107,8 @@ module _ {P : Program} {C : ℕ → Option Instruction} {bodies : List ℕ} {ret
           with-it (row-within ss e G (take (ft .0 .strict) (ft .0 .sorts)) (suc a) a E rs ds es ok (ft .3) (k .1) r)
           (λ z. call-within f ss ws e G s a b E rs ds es ok ft k r (z .0) (z .1) (z .2))
 
-      row-within : (ts : Terms) (e : Chain) (G S : List Sort) (a home : ℕ) (E : Environment) (rs : List Place) (ds : List ℕ) (es : List Environment) → chain-sorted P e G → row-sorted P ts G S → holds-strict C bodies ret ts a home → ChainFor C bodies ret e E
+      row-within : (ts : Terms) (e : Chain) (G S : List Sort) (a home : ℕ) (E : Environment) (rs : List Place) (ds : List ℕ) (es : List Environment)
+          → chain-sorted P e G → row-sorted P ts G S → holds-strict C bodies ret ts a home → ChainFor C bodies ret e E
           → Within C ((vs : List ℕ) × Row P e ts vs × of-sorts S vs) (suc N) (state (at (row-entrance ts a home)) rs ds (E ∷ es))
       row-within nil e G [] a home E rs ds es ok ft k r = found ([], done, tt)
       row-within nil e G (s ∷ S) a home E rs ds es ok ft k r = absurd ft
@@ -113,6 +119,6 @@ module _ {P : Program} {C : ℕ → Option Instruction} {bodies : List ℕ} {ret
           after (tree-goes L (z .1) a (row-entrance ts (a + size t) home) rs ds es (k .0) r) (omega arith) (λ w. (z .0 ∷ w .0, then (z .1) (w .1), (z .2, w .2)))
           (row-within ts e G S (a + size t) home E rs (z .0 ∷ ds) es ok (ft .1) (k .1) r))
 
-  pub value-within : (N : ℕ) → ValueWithin P C bodies ret N
-  value-within zero e t G s a b E rs ds es ok ft k r = goes-on 0 0 _ (omega arith) stay
-  value-within (suc N) e t G s a b E rs ds es ok ft k r = term-within N (value-within N) t e G s a b E rs ds es ok ft k r
+  pub value-within : (N : ℕ) (t : Term) → ValueWithin P C bodies ret N t
+  value-within zero t = λ e G s a b E rs ds es ok ft k r. goes-on 0 0 _ (omega arith) stay
+  value-within (suc N) t = term-within N (value-within N) t

@@ -48,7 +48,8 @@ one-value P c n m v w r r′ = leads-once (leads-of P n r) (leads-of P m r′)
 pub one-course : OneCourse
 one-course P args n m s s′ e h e′ h′ = of s s′ (course-of (code-of P) n (start-of P args) e) h (course-of (code-of P) m (start-of P args) e′) h′
   where
-    of : {r q : ℕ} (s s′ : State) → Goes (code-of P) (start-of P args) n r s → has-stopped s ≡ true → Goes (code-of P) (start-of P args) m q s′ → has-stopped s′ ≡ true → (n ≡ m) × (s ≡ s′)
+    of : {r q : ℕ} (s s′ : State) → Goes (code-of P) (start-of P args) n r s → has-stopped s ≡ true → Goes (code-of P) (start-of P args) m q s′
+        → has-stopped s′ ≡ true → (n ≡ m) × (s ≡ s′)
     of (state (at a) rs ds es) s′ g h g′ h′ = clash (unfold has-stopped in cc)
     of (state stop rs ds es) (state (at a) rs′ ds′ es′) g h g′ h′ = clash (unfold has-stopped in cc)
     of (state stop rs ds es) (state stop rs′ ds′ es′) g h g′ h′ = let p = stops-once g g′ in (p .0, p .2)
@@ -67,7 +68,8 @@ never-stuck text P args ok fit = (goes-on, not-stuck)
     not-stuck : (limit v steps rewrites : ℕ) → run-program P args limit ≡ ended STUCK v steps rewrites → ⊥
     not-stuck limit v steps rewrites e =
         let p = stuck-place P args limit e in
-        let o = next-step P args (well-made text P args ok fit) (p .6) in clash (cc (p .7, o .1))
+        let o = next-step P args (well-made text P args ok fit) (p .course) in
+        clash (cc (p .no-next, o .1))
 
 pub height : Height
 unfolding start-of start return-height environment-height

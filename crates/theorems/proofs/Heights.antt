@@ -22,7 +22,8 @@ record Moves (opened closed : ℕ) (rs : List Place) (ds : List ℕ) (es : List 
 
 module _ {opened closed : ℕ} {rs : List Place} {ds : List ℕ} {es : List Environment} where
   to-state : {p : Place} {rs′ : List Place} {ds′ : List ℕ} {es′ : List Environment} {s : State} → next (state p rs′ ds′ es′) ≡ next s
-      → length rs′ + closed ≡ length rs + opened → length es′ + closed ≡ length es + opened → length ds′ ≤ suc (length ds) → length rs′ ≤ suc (length rs) → Moves opened closed rs ds es s
+      → length rs′ + closed ≡ length rs + opened → length es′ + closed ≡ length es + opened → length ds′ ≤ suc (length ds)
+      → length rs′ ≤ suc (length rs) → Moves opened closed rs ds es s
   unfolding return-height environment-height data-height
   to-state {p} {rs′} {ds′} {es′} {s} e h k l m =
       subst (Moves opened closed rs ds es) (next-same e) (record { returns-move = h; environments-move = k; data-rises = l; returns-rise = m })
@@ -36,25 +37,29 @@ taken-fewer zero vs ds us ds′ e = let h : ds ≡ ds′ = ap (λ p. p .1) (same
 taken-fewer (suc k) vs [] us ds′ e = clash (cc)
 taken-fewer (suc k) vs (d ∷ ds) us ds′ e = omega (arith, taken-fewer k (d ∷ vs) ds us ds′ e)
 
-look-at-moves : (x : Option Slot) (b : ℕ) (rs : List Place) (ds : List ℕ) (f : Frame) (E : Environment) (es : List Environment) {s : State} → look-at x b rs ds f E es ≡ next s
+look-at-moves : (x : Option Slot) (b : ℕ) (rs : List Place) (ds : List ℕ) (f : Frame) (E : Environment) (es : List Environment) {s : State}
+    → look-at x b rs ds f E es ≡ next s
     → Moves (is-waiting x) 0 rs ds ((f ∷ E) ∷ es) s
 unfolding look-at is-waiting
 look-at-moves none b rs ds f E es e = clash (cc)
 look-at-moves (some (value v)) b rs ds f E es e = to-state e (omega arith) (omega arith) (omega arith) (omega arith)
 look-at-moves (some (waiting a)) b rs ds f E es e = to-state e (omega arith) (omega arith) (omega arith) (omega arith)
 
-look-up-moves : (i b : ℕ) (rs : List Place) (ds : List ℕ) (es : List Environment) {s : State} → look-up i b rs ds es ≡ next s → Moves (is-waiting (looked-at i es)) 0 rs ds es s
+look-up-moves : (i b : ℕ) (rs : List Place) (ds : List ℕ) (es : List Environment) {s : State} → look-up i b rs ds es ≡ next s
+    → Moves (is-waiting (looked-at i es)) 0 rs ds es s
 unfolding look-up looked-at
 look-up-moves i b rs ds [] e = clash (cc)
 look-up-moves i b rs ds ([] ∷ es) e = clash (cc)
 look-up-moves i b rs ds ((f ∷ E) ∷ es) e = look-at-moves (getElem? f i) b rs ds f E es e
 
-push-moves : (x : Option ℕ) (b : ℕ) (rs : List Place) (ds ds′ : List ℕ) (es : List Environment) {s : State} → push-result x b rs ds′ es ≡ next s → length ds′ ≤ length ds → Moves 0 0 rs ds es s
+push-moves : (x : Option ℕ) (b : ℕ) (rs : List Place) (ds ds′ : List ℕ) (es : List Environment) {s : State} → push-result x b rs ds′ es ≡ next s
+    → length ds′ ≤ length ds → Moves 0 0 rs ds es s
 unfolding push-result
 push-moves none b rs ds ds′ es e l = clash (cc)
 push-moves (some v) b rs ds ds′ es e l = to-state e (omega arith) (omega arith) (omega arith) (omega arith)
 
-execute-moves : (o : Op) (x : Option (List ℕ × List ℕ)) (b : ℕ) (rs : List Place) (ds : List ℕ) (es : List Environment) {s : State} → execute o x b rs es ≡ next s
+execute-moves : (o : Op) (x : Option (List ℕ × List ℕ)) (b : ℕ) (rs : List Place) (ds : List ℕ) (es : List Environment) {s : State}
+    → execute o x b rs es ≡ next s
     → ((us ds′ : List ℕ) → x ≡ some (us, ds′) → length ds′ ≤ length ds) → Moves 0 0 rs ds es s
 unfolding execute
 execute-moves o none b rs ds es e l = clash (cc)
@@ -73,7 +78,8 @@ unfolding enter
 enter-moves none a ws b rs ds E es e l = clash (cc)
 enter-moves (some p) a ws b rs ds E es e l = to-state e (omega arith) (omega arith) (omega (arith, l (p .0) (p .1) refl)) (omega arith)
 
-call-moves : (a k : ℕ) (ws : List ℕ) (b : ℕ) (rs : List Place) (ds : List ℕ) (es : List Environment) {s : State} → call-body a k ws b rs ds es ≡ next s → Moves 1 0 rs ds es s
+call-moves : (a k : ℕ) (ws : List ℕ) (b : ℕ) (rs : List Place) (ds : List ℕ) (es : List Environment) {s : State}
+    → call-body a k ws b rs ds es ≡ next s → Moves 1 0 rs ds es s
 unfolding call-body
 call-moves a k ws b rs ds [] e = clash (cc)
 call-moves a k ws b rs ds (E ∷ es) e = enter-moves (taken k [] ds) a ws b rs ds E es e (λ us ds′ h. taken-fewer k [] ds us ds′ h)
@@ -84,17 +90,20 @@ back-moves [] ds es e = clash (cc)
 back-moves (p ∷ rs) ds [] e = clash (cc)
 back-moves (p ∷ rs) ds (E ∷ es) e = to-state e (omega arith) (omega arith) (omega arith) (omega arith)
 
-obey-moves : (i : Option Instruction) (rs : List Place) (ds : List ℕ) (es : List Environment) {s : State} → obey i rs ds es ≡ next s → Moves (calls i + waiting-lookups i es) (returns i) rs ds es s
+obey-moves : (i : Option Instruction) (rs : List Place) (ds : List ℕ) (es : List Environment) {s : State} → obey i rs ds es ≡ next s
+    → Moves (calls i + waiting-lookups i es) (returns i) rs ds es s
 unfolding obey calls waiting-lookups returns
 obey-moves none rs ds es e = clash (cc)
 obey-moves (some (EVAL i b)) rs ds es {s} e = subst (λ n. Moves n 0 rs ds es s) (omega arith) (look-up-moves i b rs ds es e)
-obey-moves (some (EXEC o b)) rs ds es e = execute-moves o (taken (length (domain o)) [] ds) b rs ds es e (λ us ds′ h. taken-fewer (length (domain o)) [] ds us ds′ h)
+obey-moves (some (EXEC o b)) rs ds es e =
+    execute-moves o (taken (length (domain o)) [] ds) b rs ds es e (λ us ds′ h. taken-fewer (length (domain o)) [] ds us ds′ h)
 obey-moves (some (SELECT x y)) rs ds es e = choose-moves x y rs ds es e
 obey-moves (some (CALL a k ws b)) rs ds es e = call-moves a k ws b rs ds es e
 obey-moves (some RET) rs ds es e = back-moves rs ds es e
 
 -- No step adds more than one to a stack.
-pub one-at-most : (i : Option Instruction) (rs : List Place) (ds : List ℕ) (es : List Environment) {s : State} → obey i rs ds es ≡ next s → (data-height s ≤ suc (length ds)) × (return-height s ≤ suc (length rs))
+pub one-at-most : (i : Option Instruction) (rs : List Place) (ds : List ℕ) (es : List Environment) {s : State} → obey i rs ds es ≡ next s
+    → (data-height s ≤ suc (length ds)) × (return-height s ≤ suc (length rs))
 one-at-most i rs ds es e = let m = obey-moves i rs ds es e in (m .data-rises, m .returns-rise)
 
 -- The heights after n steps, against those before.
@@ -106,11 +115,13 @@ module _ (code : ℕ → Option Instruction) where
 
   pub heights-after : (n : ℕ) (s : State) {s′ : State} → state-after code n s ≡ next s′ → HeightsAfter n s s′
   unfolding state-after done-in step from-next instruction-at environments calls-at returns-at waiting-lookups-at return-height environment-height
-  heights-after zero s {s′} e = let h : s ≡ s′ = next-same e in (omega (arith, ap return-height h), omega (arith, ap return-height h, ap environment-height h))
+  heights-after zero s {s′} e =
+      let h : s ≡ s′ = next-same e in (omega (arith, ap return-height h), omega (arith, ap return-height h, ap environment-height h))
   heights-after (suc n) (state stop rs ds es) e = clash (cc)
   heights-after (suc n) (state (at a) rs ds es) {s′} e = of (obey (code a) rs ds es) refl e (λ s₁. heights-after n s₁)
     where
-      of : (x : Next) → obey (code a) rs ds es ≡ x → from-next x no-step (state-after code n) ≡ next s′ → ((s₁ : State) → state-after code n s₁ ≡ next s′ → HeightsAfter n s₁ s′)
+      of : (x : Next) → obey (code a) rs ds es ≡ x → from-next x no-step (state-after code n) ≡ next s′
+          → ((s₁ : State) → state-after code n s₁ ≡ next s′ → HeightsAfter n s₁ s′)
           → (return-height s′ + from-next x 0 (λ s₁. returns (code a) + done-in code (returns-at code) n s₁)
           ≡ length rs + from-next x 0 (λ s₁. calls (code a) + done-in code (calls-at code) n s₁) + from-next x 0 (λ s₁. waiting-lookups (code a) es + done-in code (waiting-lookups-at code) n s₁))
           × (environment-height s′ + length rs ≡ return-height s′ + length es)

@@ -35,7 +35,8 @@ module _ (C : ℕ → Option Instruction) (bodies : List ℕ) (ret : ℕ) where
 
 pub record Loaded (P : Program) (C : ℕ → Option Instruction) (bodies : List ℕ) (ret : ℕ) : Type 0 where
   pub ret-held : C ret ≡ some RET
-  pub body-held : (f : ℕ) (F : Function) → getElem? P f ≡ some F → (a : ℕ) × (getD bodies f 0 ≡ entrance (F .body) a) × holds C bodies ret (F .body) a ret
+  pub body-held : (f : ℕ) (F : Function) → getElem? P f ≡ some F
+      → (a : ℕ) × (getD bodies f 0 ≡ entrance (F .body) a) × holds C bodies ret (F .body) a ret
 
 -- A list of instructions stands in the code from address a on.
 
@@ -160,4 +161,5 @@ module _ (P : Program) where
 
   pub initial-held : holds (code-of P) (entries-of P) (ret-address P) (initial P) 0 (ret-address P)
   unfolding initial-part
-  initial-held = code-holds (entries-of P) (ret-address P) (code-of P) (initial P) 0 (ret-address P) (stands-left (code-of P) 0 initial-part (bodies-part ++ (RET ∷ [])) all-stands)
+  initial-held =
+      code-holds (entries-of P) (ret-address P) (code-of P) (initial P) 0 (ret-address P) (stands-left (code-of P) 0 initial-part (bodies-part ++ (RET ∷ [])) all-stands)

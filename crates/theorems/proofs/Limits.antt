@@ -44,7 +44,8 @@ low-of (state p rs ds es) e =
 
 pub not-high-of : (s : State) → IsLow s → too-high s ≡ false
 unfolding too-high data-height return-height
-not-high-of (state p rs ds es) h = ap (λ b. b || ltb most-height (length rs)) (le-ltb most-height (length ds) (h .0)) ∙ le-ltb most-height (length rs) (h .1)
+not-high-of (state p rs ds es) h =
+    ap (λ b. b || ltb most-height (length rs)) (le-ltb most-height (length ds) (h .0)) ∙ le-ltb most-height (length rs) (h .1)
 
 pub high-of : (s : State) → too-high s ≡ true → (most-height < data-height s) ⊎ (most-height < return-height s)
 unfolding too-high data-height return-height
@@ -60,7 +61,8 @@ too-high-of (state p rs ds es) (inl h) = ap (λ b. b || ltb most-height (length 
 too-high-of (state p rs ds es) (inr h) = second (ltb most-height (length ds)) (ltb most-height (length rs)) (lt-ltb most-height (length rs) h)
 
 -- The first state that is too high is just 513 high.
-pub just-too-high : (i : Option Instruction) (p : Place) (rs : List Place) (ds : List ℕ) (es : List Environment) {s : State} → obey i rs ds es ≡ next s → IsLow (state p rs ds es) → too-high s ≡ true
+pub just-too-high : (i : Option Instruction) (p : Place) (rs : List Place) (ds : List ℕ) (es : List Environment) {s : State}
+    → obey i rs ds es ≡ next s → IsLow (state p rs ds es) → too-high s ≡ true
     → (data-height s ≡ first-too-high) ⊎ (return-height s ≡ first-too-high)
 unfolding data-height return-height
 just-too-high i p rs ds es {s} o l e =
@@ -87,7 +89,8 @@ module _ (code : ℕ → Option Instruction) where
   low-before s₀ e o low (suc k) s′ l h = low k s′ (omega arith) (sym (one-later s₀ o k) ∙ h)
 
   -- Along a course that keeps low, a run is where the machine is.
-  pub run-along : {s s′ : State} {m q : ℕ} → Goes code s m q s′ → Low m s → (k left n r N R : ℕ) → k ≡ m + left → N ≡ n + m → R ≡ r + q → run code k s n r ≡ run code left s′ N R
+  pub run-along : {s s′ : State} {m q : ℕ} → Goes code s m q s′ → Low m s → (k left n r N R : ℕ) → k ≡ m + left → N ≡ n + m → R ≡ r + q
+      → run code k s n r ≡ run code left s′ N R
   unfolding run after-step unless-high step
   run-along stay low k left n r N R hk hn hr =
       let k′ : k ≡ left = omega arith in
@@ -108,16 +111,19 @@ module _ (code : ℕ → Option Instruction) where
 
   -- Each place of the machine ends the run.
 
-  pub run-stopped : (left : ℕ) (rs : List Place) (ds : List ℕ) (es : List Environment) (n r : ℕ) → run code left (state stop rs ds es) n r ≡ ended HALT (top ds) n r
+  pub run-stopped : (left : ℕ) (rs : List Place) (ds : List ℕ) (es : List Environment) (n r : ℕ)
+      → run code left (state stop rs ds es) n r ≡ ended HALT (top ds) n r
   unfolding run
   run-stopped zero rs ds es n r = refl
   run-stopped (suc left) rs ds es n r = refl
 
-  pub run-fuel : (a : ℕ) (rs : List Place) (ds : List ℕ) (es : List Environment) (n r : ℕ) → run code zero (state (at a) rs ds es) n r ≡ ended FUEL 0 n r
+  pub run-fuel : (a : ℕ) (rs : List Place) (ds : List ℕ) (es : List Environment) (n r : ℕ)
+      → run code zero (state (at a) rs ds es) n r ≡ ended FUEL 0 n r
   unfolding run
   run-fuel a rs ds es n r = refl
 
-  pub run-deep : (a : ℕ) (rs : List Place) (ds : List ℕ) (es : List Environment) {s : State} (left n r : ℕ) → obey (code a) rs ds es ≡ next s → too-high s ≡ true
+  pub run-deep : (a : ℕ) (rs : List Place) (ds : List ℕ) (es : List Environment) {s : State} (left n r : ℕ) → obey (code a) rs ds es ≡ next s
+      → too-high s ≡ true
       → run code (suc left) (state (at a) rs ds es) n r ≡ ended DEEP 0 n r
   unfolding run after-step unless-high
   run-deep a rs ds es {s} left n r o e =
@@ -126,15 +132,20 @@ module _ (code : ℕ → Option Instruction) where
 
   -- What each ending of a run says.
   pub data Says (k : ℕ) (s : State) (n r : ℕ) : Ending → Type 0 where
-    halted : {m q v N R : ℕ} {rs : List Place} {ds : List ℕ} {es : List Environment} → Goes code s m q (state stop rs ds es) → Low m s → m ≤ k → v ≡ top ds → N ≡ n + m → R ≡ r + q
+    halted : {m q v N R : ℕ} {rs : List Place} {ds : List ℕ} {es : List Environment} → Goes code s m q (state stop rs ds es) → Low m s → m ≤ k
+        → v ≡ top ds → N ≡ n + m → R ≡ r + q
         → Says k s n r (ended HALT v N R)
-    fuelled : {q a v N R : ℕ} {rs : List Place} {ds : List ℕ} {es : List Environment} → Goes code s k q (state (at a) rs ds es) → Low k s → N ≡ n + k → R ≡ r + q
+    fuelled : {q a v N R : ℕ} {rs : List Place} {ds : List ℕ} {es : List Environment} → Goes code s k q (state (at a) rs ds es) → Low k s → N ≡ n + k
+        → R ≡ r + q
         → Says k s n r (ended FUEL v N R)
-    deepened : {m q a v N R : ℕ} {rs : List Place} {ds : List ℕ} {es : List Environment} {s′ : State} → Goes code s m q (state (at a) rs ds es) → Low m s → m < k
+    deepened : {m q a v N R : ℕ} {rs : List Place} {ds : List ℕ} {es : List Environment} {s′ : State} → Goes code s m q (state (at a) rs ds es)
+        → Low m s → m < k
         → obey (code a) rs ds es ≡ next s′ → too-high s′ ≡ true → N ≡ n + m → R ≡ r + q → Says k s n r (ended DEEP v N R)
-    jammed : {m q a v N R : ℕ} {rs : List Place} {ds : List ℕ} {es : List Environment} → Goes code s m q (state (at a) rs ds es) → obey (code a) rs ds es ≡ no-step → Says k s n r (ended STUCK v N R)
+    jammed : {m q a v N R : ℕ} {rs : List Place} {ds : List ℕ} {es : List Environment} → Goes code s m q (state (at a) rs ds es)
+        → obey (code a) rs ds es ≡ no-step → Says k s n r (ended STUCK v N R)
 
-  said-before : {a k n r : ℕ} {rs : List Place} {ds : List ℕ} {es : List Environment} {s : State} {x : Ending} → too-high (state (at a) rs ds es) ≡ false → obey (code a) rs ds es ≡ next s
+  said-before : {a k n r : ℕ} {rs : List Place} {ds : List ℕ} {es : List Environment} {s : State} {x : Ending}
+      → too-high (state (at a) rs ds es) ≡ false → obey (code a) rs ds es ≡ next s
       → Says k s (n + 1) (r + rewrites (code a)) x → Says (suc k) (state (at a) rs ds es) n r x
   unfolding step
   said-before {a} {rs = rs} {ds = ds} {es = es} e o (halted {N = N} {R = R} g low l t h h′) =
@@ -147,15 +158,18 @@ module _ (code : ℕ → Option Instruction) where
 
   pub says : (k : ℕ) (s : State) (n r : ℕ) → too-high s ≡ false → Says k s n r (run code k s n r)
   unfolding run after-step unless-high
-  says zero (state stop rs ds es) n r low = halted {N = n} {R = r} stay (low-at (state stop rs ds es) low) (omega arith) refl (omega arith) (omega arith)
+  says zero (state stop rs ds es) n r low =
+      halted {N = n} {R = r} stay (low-at (state stop rs ds es) low) (omega arith) refl (omega arith) (omega arith)
   says zero (state (at a) rs ds es) n r low = fuelled {N = n} {R = r} stay (low-at (state (at a) rs ds es) low) (omega arith) (omega arith)
-  says (suc k) (state stop rs ds es) n r low = halted {N = n} {R = r} stay (low-at (state stop rs ds es) low) (omega arith) refl (omega arith) (omega arith)
+  says (suc k) (state stop rs ds es) n r low =
+      halted {N = n} {R = r} stay (low-at (state stop rs ds es) low) (omega arith) refl (omega arith) (omega arith)
   says (suc k) (state (at a) rs ds es) n r low = of (obey (code a) rs ds es) refl (λ s′. says k s′ (n + 1) (r + rewrites (code a)))
     where
       onward : State → Ending
       onward x = run code k x (n + 1) (r + rewrites (code a))
 
-      test : (s : State) (b : Bool) → too-high s ≡ b → obey (code a) rs ds es ≡ next s → (too-high s ≡ false → Says k s (n + 1) (r + rewrites (code a)) (onward s))
+      test : (s : State) (b : Bool) → too-high s ≡ b → obey (code a) rs ds es ≡ next s
+          → (too-high s ≡ false → Says k s (n + 1) (r + rewrites (code a)) (onward s))
           → Says (suc k) (state (at a) rs ds es) n r (unless-high b n r s onward)
       test s true e h rec = deepened {N = n} {R = r} stay (low-at (state (at a) rs ds es) low) (omega arith) h e (omega arith) (omega arith)
       test s false e h rec = said-before low h (rec e)

@@ -70,7 +70,8 @@ symbols-proper l seen (h ∷ hs) =
 
 counts-proper : (hs : List Line) → proper (judge-counts hs)
 unfolding judge-counts proper no
-counts-proper hs = test-proper (leb (length hs) most-functions) (judge-symbols 1 0 hs) (refused COUNT (most-functions + 1) 0) (symbols-proper 1 0 hs) (omega arith)
+counts-proper hs =
+    test-proper (leb (length hs) most-functions) (judge-symbols 1 0 hs) (refused COUNT (most-functions + 1) 0) (symbols-proper 1 0 hs) (omega arith)
 
 names-proper : (l : ℕ) (earlier ns : List Field) → proper (judge-names l earlier ns)
 unfolding judge-names proper no
@@ -160,7 +161,8 @@ of-admitted {text} {args} {code} {work} {P} A =
     ∙ ap (λ b. judge-room b >> fine P) (le-leb work-words work (A .work-room))
 
 -- The answer to an admitted text is how its run ends.
-pub admitted-answer : {text args : List ℕ} {code work : ℕ} {P : Program} (limit : ℕ) {n : Number} {v s r : ℕ} → Admitted text args code work P → run-program P args limit ≡ ended n v s r →
+pub admitted-answer : {text args : List ℕ} {code work : ℕ} {P : Program} (limit : ℕ) {n : Number} {v s r : ℕ} → Admitted text args code work P
+    → run-program P args limit ≡ ended n v s r →
     let answer = run-answer text args limit code work in
     (answer .number ≡ no n) × (answer .value ≡ v) × (answer .steps ≡ s) × (answer .rewrites ≡ r)
 unfolding run-answer answered ran
@@ -196,7 +198,8 @@ unfolding ran
 ended-so (ended m v s r) n e = ap (λ k. ended k v s r) (number-once m n e)
 
 -- An answer whose number is none of 1 to 8 comes from a run.
-pub answer-runs : (text args : List ℕ) (limit code work : ℕ) (n : Number) → (no n < 1) ⊎ (8 < no n) → run-answer text args limit code work .number ≡ no n
+pub answer-runs : (text args : List ℕ) (limit code work : ℕ) (n : Number) → (no n < 1) ⊎ (8 < no n)
+    → run-answer text args limit code work .number ≡ no n
     → (P : Program) × Admitted text args code work P
     × (run-program P args limit ≡ ended n (run-answer text args limit code work .value) (run-answer text args limit code work .steps) (run-answer text args limit code work .rewrites))
 unfolding run-answer answered proper

@@ -77,7 +77,8 @@ module _ (P : Program) where
 
 -- Every argument of a sort is there.
 
-pub value-there : (S : List Sort) (vs : List ℕ) (i : ℕ) {s : Sort} → of-sorts S vs → getElem? S i ≡ some s → (v : ℕ) × (getElem? vs i ≡ some v) × of-sort s v
+pub value-there : (S : List Sort) (vs : List ℕ) (i : ℕ) {s : Sort} → of-sorts S vs → getElem? S i ≡ some s
+    → (v : ℕ) × (getElem? vs i ≡ some v) × of-sort s v
 unfolding of-sorts
 value-there [] [] i g h = clash (cc)
 value-there [] (v ∷ vs) i g h = absurd g
@@ -103,14 +104,16 @@ all-wait-sorted P nil G (s ∷ S) h = absurd h
 all-wait-sorted P (cons t ws) G [] h = absurd h
 all-wait-sorted P (cons t ws) G (s ∷ S) h = (h .0, all-wait-sorted P ws G S (h .1))
 
-two-parts-sorted : (P : Program) (vs : List ℕ) (ws : Terms) (G S S′ : List Sort) → of-sorts S vs → row-sorted P ws G S′ → frame-sorted P (call-frame vs ws) G (S ++ S′)
+two-parts-sorted : (P : Program) (vs : List ℕ) (ws : Terms) (G S S′ : List Sort) → of-sorts S vs → row-sorted P ws G S′
+    → frame-sorted P (call-frame vs ws) G (S ++ S′)
 unfolding of-sorts frame-sorted call-frame argument-sorted
 two-parts-sorted P [] ws G [] S′ g h = all-wait-sorted P ws G S′ h
 two-parts-sorted P [] ws G (s ∷ S) S′ g h = absurd g
 two-parts-sorted P (v ∷ vs) ws G [] S′ g h = absurd g
 two-parts-sorted P (v ∷ vs) ws G (s ∷ S) S′ g h = (g .0, two-parts-sorted P vs ws G S S′ (g .1) h)
 
-pub call-frame-sorted : (P : Program) (F : Function) (vs : List ℕ) (ws : Terms) (G : List Sort) → of-sorts (take (F .strict) (F .sorts)) vs → row-sorted P ws G (drop (F .strict) (F .sorts))
+pub call-frame-sorted : (P : Program) (F : Function) (vs : List ℕ) (ws : Terms) (G : List Sort) → of-sorts (take (F .strict) (F .sorts)) vs
+    → row-sorted P ws G (drop (F .strict) (F .sorts))
     → frame-sorted P (call-frame vs ws) G (F .sorts)
 call-frame-sorted P F vs ws G g h =
     subst (λ S. frame-sorted P (call-frame vs ws) G S) (take-append-drop (F .strict) (F .sorts)) (two-parts-sorted P vs ws G (take (F .strict) (F .sorts)) (drop (F .strict) (F .sorts)) g h)
@@ -141,7 +144,8 @@ two-at-most neg = omega arith
 pub few-operands : (P : Program) (o : Op) (ts : Terms) (G : List Sort) → row-sorted P ts G (domain o) → count ts ≤ most-arguments
 few-operands P o ts G h = omega (arith, row-count P ts G (domain o) h, two-at-most o)
 
-pub few-strict : (P : Program) → Sorted P → (f : ℕ) (F : Function) (ss : Terms) (G : List Sort) → getElem? P f ≡ some F → row-sorted P ss G (take (F .strict) (F .sorts)) → count ss ≤ most-arguments
+pub few-strict : (P : Program) → Sorted P → (f : ℕ) (F : Function) (ss : Terms) (G : List Sort) → getElem? P f ≡ some F
+    → row-sorted P ss G (take (F .strict) (F .sorts)) → count ss ≤ most-arguments
 few-strict P ok f F ss G h k = omega (arith, row-count P ss G (take (F .strict) (F .sorts)) k, length-take (F .strict) (F .sorts), ok f F h .0)
 
 -- An operation at values of its sorts has a value, of its own sort.
@@ -150,14 +154,16 @@ truth-below : (b : Bool) → truth b < 2
 truth-below true = omega arith
 truth-below false = omega arith
 
-two-sorted : (s s′ r : Sort) (f : ℕ → ℕ → ℕ) → ((a b : ℕ) → of-sort r (f a b)) → (vs : List ℕ) → of-sorts (s ∷ s′ ∷ []) vs → (v : ℕ) × (of-two f vs ≡ some v) × of-sort r v
+two-sorted : (s s′ r : Sort) (f : ℕ → ℕ → ℕ) → ((a b : ℕ) → of-sort r (f a b)) → (vs : List ℕ) → of-sorts (s ∷ s′ ∷ []) vs
+    → (v : ℕ) × (of-two f vs ≡ some v) × of-sort r v
 unfolding of-sorts of-two
 two-sorted s s′ r f h [] g = absurd g
 two-sorted s s′ r f h (a ∷ []) g = absurd (g .1)
 two-sorted s s′ r f h (a ∷ b ∷ []) g = (f a b, refl, h a b)
 two-sorted s s′ r f h (a ∷ b ∷ x ∷ vs) g = absurd (g .1 .1)
 
-one-sorted : (s r : Sort) (f : ℕ → ℕ) → ((a : ℕ) → of-sort r (f a)) → (vs : List ℕ) → of-sorts (s ∷ []) vs → (v : ℕ) × (of-one f vs ≡ some v) × of-sort r v
+one-sorted : (s r : Sort) (f : ℕ → ℕ) → ((a : ℕ) → of-sort r (f a)) → (vs : List ℕ) → of-sorts (s ∷ []) vs
+    → (v : ℕ) × (of-one f vs ≡ some v) × of-sort r v
 unfolding of-sorts of-one
 one-sorted s r f h [] g = absurd g
 one-sorted s r f h (a ∷ []) g = (f a, refl, h a)

@@ -58,7 +58,8 @@ cond-no-value (is-value (suc (suc n))) x y e = clash (cc)
 cond-no-value (becomes c) x y e = clash (cc)
 cond-no-value no-rule x y e = clash (cc)
 
-body-becomes : (x : Option Function) (cs : Closeds) {d : Closed} → body-of x cs ≡ becomes d → (F : Function) × (x ≡ some F) × (d ≡ put-in (F .body) cs)
+body-becomes : (x : Option Function) (cs : Closeds) {d : Closed} → body-of x cs ≡ becomes d
+    → (F : Function) × (x ≡ some F) × (d ≡ put-in (F .body) cs)
 unfolding body-of
 body-becomes none cs e = clash (cc)
 body-becomes (some F) cs e = (F, refl, cc)
@@ -109,7 +110,8 @@ pub data RowLeads (P : Program) : Closeds → ℕ → List ℕ → Type 0 where
   row-arrived : {cs : Closeds} {vs : List ℕ} → rewrite-row P cs ≡ are-values vs → RowLeads P cs 0 vs
   row-onward : {cs ds : Closeds} {n : ℕ} {vs : List ℕ} → rewrite-row P cs ≡ become ds → RowLeads P ds n vs → RowLeads P cs (suc n) vs
 
-there-is-value : (x : Rewrite) (go-on : Closed → Rewrite) {v : ℕ} → from-there x go-on ≡ is-value v → (d : Closed) × (x ≡ becomes d) × (go-on d ≡ is-value v)
+there-is-value : (x : Rewrite) (go-on : Closed → Rewrite) {v : ℕ} → from-there x go-on ≡ is-value v
+    → (d : Closed) × (x ≡ becomes d) × (go-on d ≡ is-value v)
 unfolding from-there
 there-is-value (is-value w) go-on e = clash (cc)
 there-is-value (becomes d) go-on e = (d, refl, e)
@@ -149,7 +151,8 @@ module _ {P : Program} where
   after-a-value v (row-arrived h) = row-arrived (ap (after-value v) h)
   after-a-value v (row-onward h r) = row-onward (ap (after-value v) h) (after-a-value v r)
 
-  pub row-leads : {c : Closed} {cs : Closeds} {n m v : ℕ} {vs : List ℕ} → Leads P c n v → RowLeads P cs m vs → RowLeads P (and-then c cs) (n + m) (v ∷ vs)
+  pub row-leads : {c : Closed} {cs : Closeds} {n m v : ℕ} {vs : List ℕ} → Leads P c n v → RowLeads P cs m vs
+      → RowLeads P (and-then c cs) (n + m) (v ∷ vs)
   unfolding rewrite in-row after-value
   row-leads {cs = cs} (arrived e) (row-arrived h) = row-counted (omega arith) (row-arrived (ap₂ (λ a b. in-row a cs b) e h))
   row-leads {cs = cs} (arrived e) (row-onward h r) = row-counted (omega arith) (row-onward (ap₂ (λ a b. in-row a cs b) e h) (after-a-value _ r))
@@ -208,9 +211,11 @@ module _ {P : Program} where
             ]
       ]
     where
-      one-more : {d : Closed} → rewrite P t ≡ becomes d → (m j : ℕ) × (n ≡ suc (m + j)) × ((Leads P d m 1 × Leads P x j v) ⊎ (Leads P d m 0 × Leads P y j v))
+      one-more : {d : Closed} → rewrite P t ≡ becomes d
+          → (m j : ℕ) × (n ≡ suc (m + j)) × ((Leads P d m 1 × Leads P x j v) ⊎ (Leads P d m 0 × Leads P y j v))
           → (m j : ℕ) × (suc n ≡ suc (m + j)) × ((Leads P t m 1 × Leads P x j v) ⊎ (Leads P t m 0 × Leads P y j v))
-      one-more h q = (suc (q .0), q .1, omega (arith, q .2), elim (q .3) [ inl s ↦ inl (onward h (s .0), s .1) | inr s ↦ inr (onward h (s .0), s .1) ])
+      one-more h q =
+          (suc (q .0), q .1, omega (arith, q .2), elim (q .3) [ inl s ↦ inl (onward h (s .0), s .1) | inr s ↦ inr (onward h (s .0), s .1) ])
 
   pub call-parts : {c : Closed} {n v : ℕ} → Leads P c n v → {f : ℕ} {ss ws : Closeds} → c ≡ call-of f ss ws
       → (m k : ℕ) × (vs : List ℕ) × (F : Function) × (n ≡ suc (m + k)) × RowLeads P ss m vs × (getElem? P f ≡ some F) × Leads P (put-in (F .body) (vals vs followed-by ws)) k v

@@ -76,7 +76,8 @@ taken-as vs ds h = ap (λ n. taken n vs ds) h
 taken-more : (vs us ds : List ℕ) (k : ℕ) → taken (length vs + k) us (pile vs ds) ≡ taken k (vs ++ us) ds
 unfolding pile taken
 taken-more [] us ds k = taken-as {n = 0 + k} {m = k} us ds (omega arith)
-taken-more (v ∷ vs) us ds k = taken-as {n = suc (length vs) + k} {m = length vs + suc k} us (pile vs (v ∷ ds)) (omega arith) ∙ taken-more vs us (v ∷ ds) (suc k)
+taken-more (v ∷ vs) us ds k =
+    taken-as {n = suc (length vs) + k} {m = length vs + suc k} us (pile vs (v ∷ ds)) (omega arith) ∙ taken-more vs us (v ∷ ds) (suc k)
 
 append-nil : (vs : List ℕ) → vs ++ [] ≡ vs
 append-nil [] = refl
@@ -84,7 +85,8 @@ append-nil (v ∷ vs) = ap (λ l. v ∷ l) (append-nil vs)
 
 taken-pile : (k : ℕ) (vs ds : List ℕ) → length vs ≡ k → taken k [] (pile vs ds) ≡ some (vs, ds)
 unfolding taken
-taken-pile k vs ds h = taken-as {n = k} {m = length vs + 0} [] (pile vs ds) (omega arith) ∙ taken-more vs [] ds 0 ∙ ap (λ l. some (l, ds)) (append-nil vs)
+taken-pile k vs ds h =
+    taken-as {n = k} {m = length vs + 0} [] (pile vs ds) (omega arith) ∙ taken-more vs [] ds 0 ∙ ap (λ l. some (l, ds)) (append-nil vs)
 
 -- The machine's frames stand for the chain's: values are the same, and an address is the entrance of the term that waits.
 
@@ -92,7 +94,8 @@ module _ (C : ℕ → Option Instruction) (bodies : List ℕ) (ret : ℕ) where
   pub data FrameFor : List Argument → Frame → Type 0 where
     empty : FrameFor [] []
     of-given : {v : ℕ} {f : List Argument} {s : Frame} → FrameFor f s → FrameFor (given v ∷ f) (value v ∷ s)
-    of-waits : {t : Term} (a : ℕ) {f : List Argument} {s : Frame} → holds C bodies ret t a ret → FrameFor f s → FrameFor (waits t ∷ f) (waiting (entrance t a) ∷ s)
+    of-waits : {t : Term} (a : ℕ) {f : List Argument} {s : Frame} → holds C bodies ret t a ret → FrameFor f s
+        → FrameFor (waits t ∷ f) (waiting (entrance t a) ∷ s)
 
   pub data ChainFor : Chain → Environment → Type 0 where
     of-bottom : {vs : List ℕ} → ChainFor (bottom vs) (map value vs ∷ [])
@@ -104,7 +107,8 @@ entry-slot (x ∷ vs) zero h = cc
 entry-slot (x ∷ vs) (suc i) h = entry-slot vs i h
 
 module _ {C : ℕ → Option Instruction} {bodies : List ℕ} {ret : ℕ} where
-  given-slot : {f : List Argument} {s : Frame} → FrameFor C bodies ret f s → (i : ℕ) {v : ℕ} → getElem? f i ≡ some (given v) → getElem? s i ≡ some (value v)
+  given-slot : {f : List Argument} {s : Frame} → FrameFor C bodies ret f s → (i : ℕ) {v : ℕ} → getElem? f i ≡ some (given v)
+      → getElem? s i ≡ some (value v)
   given-slot empty i h = clash (cc)
   given-slot (of-given r) zero h = cc
   given-slot (of-given r) (suc i) h = given-slot r i h
@@ -119,7 +123,8 @@ module _ {C : ℕ → Option Instruction} {bodies : List ℕ} {ret : ℕ} where
   waits-slot (of-waits {t = u} a k r) zero {t} h = let same : u ≡ t = cc in rw (← same) (a, refl, k)
   waits-slot (of-waits a k r) (suc i) h = waits-slot r i h
 
-  pub call-frame-for : (vs : List ℕ) (ws : Terms) (a : ℕ) → holds-waiting C bodies ret ws a → FrameFor C bodies ret (call-frame vs ws) (map value vs ++ map waiting (entrances ws a))
+  pub call-frame-for : (vs : List ℕ) (ws : Terms) (a : ℕ) → holds-waiting C bodies ret ws a
+      → FrameFor C bodies ret (call-frame vs ws) (map value vs ++ map waiting (entrances ws a))
   unfolding call-frame all-wait entrances holds-waiting
   call-frame-for [] nil a h = empty
   call-frame-for [] (cons t ws) a h = of-waits a (h .0) (call-frame-for [] ws (a + size t) (h .1))
@@ -128,21 +133,27 @@ module _ {C : ℕ → Option Instruction} {bodies : List ℕ} {ret : ℕ} where
 module _ {P : Program} {C : ℕ → Option Instruction} {bodies : List ℕ} {ret : ℕ} (L : Loaded P C bodies ret) where
   -- One step of each kind.
 
-  value-step : {a i b v : ℕ} {rs : List Place} {ds : List ℕ} {f : Frame} {E : Environment} {es : List Environment} → C a ≡ some (EVAL i b) → getElem? f i ≡ some (value v)
+  value-step : {a i b v : ℕ} {rs : List Place} {ds : List ℕ} {f : Frame} {E : Environment} {es : List Environment} → C a ≡ some (EVAL i b)
+      → getElem? f i ≡ some (value v)
       → Goes C (state (at a) rs ds ((f ∷ E) ∷ es)) 1 0 (state (at b) rs (v ∷ ds) ((f ∷ E) ∷ es))
   unfolding obey look-up look-at rewrites
-  value-step {b = b} {rs = rs} {ds = ds} {f = f} {E = E} {es = es} h k = timed (go h (ap (λ x. look-at x b rs ds f E es) k) stay) (omega arith) (omega arith)
+  value-step {b = b} {rs = rs} {ds = ds} {f = f} {E = E} {es = es} h k =
+      timed (go h (ap (λ x. look-at x b rs ds f E es) k) stay) (omega arith) (omega arith)
 
-  pub waiting-step : {a i b w : ℕ} {rs : List Place} {ds : List ℕ} {f : Frame} {E : Environment} {es : List Environment} → C a ≡ some (EVAL i b) → getElem? f i ≡ some (waiting w)
+  pub waiting-step : {a i b w : ℕ} {rs : List Place} {ds : List ℕ} {f : Frame} {E : Environment} {es : List Environment} → C a ≡ some (EVAL i b)
+      → getElem? f i ≡ some (waiting w)
       → Goes C (state (at a) rs ds ((f ∷ E) ∷ es)) 1 0 (state (at w) (at b ∷ rs) ds (E ∷ (f ∷ E) ∷ es))
   unfolding obey look-up look-at rewrites
-  waiting-step {b = b} {rs = rs} {ds = ds} {f = f} {E = E} {es = es} h k = timed (go h (ap (λ x. look-at x b rs ds f E es) k) stay) (omega arith) (omega arith)
+  waiting-step {b = b} {rs = rs} {ds = ds} {f = f} {E = E} {es = es} h k =
+      timed (go h (ap (λ x. look-at x b rs ds f E es) k) stay) (omega arith) (omega arith)
 
-  pub return-step : {p : Place} {rs : List Place} {ds : List ℕ} {E : Environment} {es : List Environment} → Goes C (state (at ret) (p ∷ rs) ds (E ∷ es)) 1 0 (state p rs ds es)
+  pub return-step : {p : Place} {rs : List Place} {ds : List ℕ} {E : Environment} {es : List Environment}
+      → Goes C (state (at ret) (p ∷ rs) ds (E ∷ es)) 1 0 (state p rs ds es)
   unfolding obey go-back rewrites
   return-step = timed (go (L .ret-held) refl stay) (omega arith) (omega arith)
 
-  operation-step : (o : Op) (vs : List ℕ) {a b v : ℕ} {rs : List Place} {ds : List ℕ} {es : List Environment} → C a ≡ some (EXEC (unsorted o) b) → apply o vs ≡ some v
+  operation-step : (o : Op) (vs : List ℕ) {a b v : ℕ} {rs : List Place} {ds : List ℕ} {es : List Environment} → C a ≡ some (EXEC (unsorted o) b)
+      → apply o vs ≡ some v
       → Goes C (state (at a) rs (pile vs ds) es) 1 1 (state (at b) rs (v ∷ ds) es)
   unfolding obey execute push-result rewrites
   operation-step o vs {b = b} {rs = rs} {ds = ds} {es = es} h k =
@@ -151,15 +162,18 @@ module _ {P : Program} {C : ℕ → Option Instruction} {bodies : List ℕ} {ret
       (go h (ap (λ x. execute (unsorted o) x b rs es) (taken-pile (length (domain (unsorted o))) vs ds (enough-given (unsorted o) vs k′)) ∙ ap (λ x. push-result x b rs ds es) k′) stay)
       (omega arith) (omega arith)
 
-  pub choose-yes : {a x y : ℕ} {rs : List Place} {ds : List ℕ} {es : List Environment} → C a ≡ some (SELECT x y) → Goes C (state (at a) rs (1 ∷ ds) es) 1 1 (state (at x) rs ds es)
+  pub choose-yes : {a x y : ℕ} {rs : List Place} {ds : List ℕ} {es : List Environment} → C a ≡ some (SELECT x y)
+      → Goes C (state (at a) rs (1 ∷ ds) es) 1 1 (state (at x) rs ds es)
   unfolding obey choose rewrites
   choose-yes h = timed (go h refl stay) (omega arith) (omega arith)
 
-  pub choose-no : {a x y : ℕ} {rs : List Place} {ds : List ℕ} {es : List Environment} → C a ≡ some (SELECT x y) → Goes C (state (at a) rs (0 ∷ ds) es) 1 1 (state (at y) rs ds es)
+  pub choose-no : {a x y : ℕ} {rs : List Place} {ds : List ℕ} {es : List Environment} → C a ≡ some (SELECT x y)
+      → Goes C (state (at a) rs (0 ∷ ds) es) 1 1 (state (at y) rs ds es)
   unfolding obey choose rewrites
   choose-no h = timed (go h refl stay) (omega arith) (omega arith)
 
-  pub call-step : (vs : List ℕ) {a x k b : ℕ} {ws : List ℕ} {rs : List Place} {ds : List ℕ} {E : Environment} {es : List Environment} → C a ≡ some (CALL x k ws b) → length vs ≡ k
+  pub call-step : (vs : List ℕ) {a x k b : ℕ} {ws : List ℕ} {rs : List Place} {ds : List ℕ} {E : Environment} {es : List Environment}
+      → C a ≡ some (CALL x k ws b) → length vs ≡ k
       → Goes C (state (at a) rs (pile vs ds) (E ∷ es)) 1 1 (state (at x) (at b ∷ rs) ds (((map value vs ++ map waiting ws) ∷ E) ∷ E ∷ es))
   unfolding obey call-body enter rewrites
   call-step vs {x = x} {k = k} {b = b} {ws = ws} {rs = rs} {ds = ds} {E = E} {es = es} h l =
@@ -176,9 +190,12 @@ module _ {P : Program} {C : ℕ → Option Instruction} {bodies : List ℕ} {ret
     tree-goes (waiting-argument {i = i} h d) a b rs ds es k (of-push {s = s} {E = E} q r) =
         let p = waits-slot q i h in
         timed (waiting-step k (p .1) ▸ tree-goes d (p .0) ret (at b ∷ rs) ds ((s ∷ E) ∷ es) (p .2) r ▸ return-step) (omega arith) (omega arith)
-    tree-goes (operation {o = o} {vs = vs} l ts h) a b rs ds es k r = timed (row-goes ts (suc a) a rs ds es (k .1) r ▸ operation-step o vs (k .0) h) (omega arith) (omega arith)
-    tree-goes (yes-branch d d′) a b rs ds es k r = timed (tree-goes d (suc a) a rs ds es (k .1) r ▸ choose-yes (k .0) ▸ tree-goes d′ _ b rs ds es (k .2) r) (omega arith) (omega arith)
-    tree-goes (no-branch d d′) a b rs ds es k r = timed (tree-goes d (suc a) a rs ds es (k .1) r ▸ choose-no (k .0) ▸ tree-goes d′ _ b rs ds es (k .3) r) (omega arith) (omega arith)
+    tree-goes (operation {o = o} {vs = vs} l ts h) a b rs ds es k r =
+        timed (row-goes ts (suc a) a rs ds es (k .1) r ▸ operation-step o vs (k .0) h) (omega arith) (omega arith)
+    tree-goes (yes-branch d d′) a b rs ds es k r =
+        timed (tree-goes d (suc a) a rs ds es (k .1) r ▸ choose-yes (k .0) ▸ tree-goes d′ _ b rs ds es (k .2) r) (omega arith) (omega arith)
+    tree-goes (no-branch d d′) a b rs ds es k r =
+        timed (tree-goes d (suc a) a rs ds es (k .1) r ▸ choose-no (k .0) ▸ tree-goes d′ _ b rs ds es (k .3) r) (omega arith) (omega arith)
     tree-goes (body {f = f} {F = F} {ss = ss} {ws = ws} {vs = vs} l ts h d) a b {E} rs ds es k r =
         let p = L .body-held f F h in
         timed
@@ -189,4 +206,5 @@ module _ {P : Program} {C : ℕ → Option Instruction} {bodies : List ℕ} {ret
     pub row-goes : {e : Chain} {ts : Terms} {vs : List ℕ} (q : Row P e ts vs) (a home : ℕ) {E : Environment} (rs : List Place) (ds : List ℕ) (es : List Environment) → holds-strict C bodies ret ts a home → ChainFor C bodies ret e E
         → Goes C (state (at (row-entrance ts a home)) rs ds (E ∷ es)) (steps (row-cost q)) (row-cost q .rewrites) (state (at home) rs (pile vs ds) (E ∷ es))
     row-goes done a home rs ds es k r = timed stay (omega arith) (omega arith)
-    row-goes (then {t = t} {v = v} d q) a home rs ds es k r = timed (tree-goes d a _ rs ds es (k .0) r ▸ row-goes q (a + size t) home rs (v ∷ ds) es (k .1) r) (omega arith) (omega arith)
+    row-goes (then {t = t} {v = v} d q) a home rs ds es k r =
+        timed (tree-goes d a _ rs ds es (k .0) r ▸ row-goes q (a + size t) home rs (v ∷ ds) es (k .1) r) (omega arith) (omega arith)

@@ -41,7 +41,8 @@ module _ (P : Program) where
       entry-argument : {vs : List ℕ} {i v : ℕ} → getElem? vs i ≡ some v → Tree (bottom vs) (arg i) v
       value-argument : {f : List Argument} {e : Chain} {i v : ℕ} → getElem? f i ≡ some (given v) → Tree (push f e) (arg i) v
       waiting-argument : {f : List Argument} {e : Chain} {i v : ℕ} {t : Term} → getElem? f i ≡ some (waits t) → Tree e t v → Tree (push f e) (arg i) v
-      operation : {e : Chain} {o : Op} {ts : Terms} {vs : List ℕ} {v : ℕ} → count ts ≤ most-arguments → Row e ts vs → apply o vs ≡ some v → Tree e (op o ts) v
+      operation : {e : Chain} {o : Op} {ts : Terms} {vs : List ℕ} {v : ℕ} → count ts ≤ most-arguments → Row e ts vs → apply o vs ≡ some v
+          → Tree e (op o ts) v
       yes-branch : {e : Chain} {t x y : Term} {v : ℕ} → Tree e t 1 → Tree e x v → Tree e (cond t x y) v
       no-branch : {e : Chain} {t x y : Term} {v : ℕ} → Tree e t 0 → Tree e y v → Tree e (cond t x y) v
       body : {e : Chain} {f : ℕ} {F : Function} {ss ws : Terms} {vs : List ℕ} {v : ℕ} → count ss ≤ most-arguments

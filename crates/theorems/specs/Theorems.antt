@@ -53,19 +53,21 @@ InTime =
     → ((steps : ℕ) × (steps ≤ bound n) × (run-program P args limit ≡ ended HALT v steps n))
     ⊎ ((steps rewrites : ℕ) × (run-program P args limit ≡ ended DEEP 0 steps rewrites) × Passes P args)
 
--- `machine-agrees`. What both demands rest on, the paper's theorem with the rewrites counted: the machine without limits stops with v after n rewrites exactly where leftmost rewriting
--- reaches v in n, and then within the bound.
+-- `machine-agrees`. What both demands rest on, the paper's theorem with the rewrites counted: the machine without limits stops with v after n rewrites
+-- exactly where leftmost rewriting reaches v in n, and then within the bound. Rules out: a rule with a
+-- value on which the machine never stops.
 abbrev pub MachineAgrees : Type 0
 MachineAgrees =
     (text : List ℕ) (P : Program) (args : List ℕ) (n v : ℕ) → check text ≡ fine P → fitting P args ≡ true
     → (Reaches P (entry-call P args) n v → (steps : ℕ) × (steps ≤ bound n) × Stops P args v steps n)
     × ((steps : ℕ) → Stops P args v steps n → Reaches P (entry-call P args) n v)
 
--- 4. `one-value`. Leftmost rewriting reaches at most one value, in one number of rewrites.
+-- 4. `one-value`. Leftmost rewriting reaches at most one value, in one number of rewrites. Rules out: two right answers.
 abbrev pub OneValue : Type 0
 OneValue = (P : Program) (c : Closed) (n m v w : ℕ) → Reaches P c n v → Reaches P c m w → (n ≡ m) × (v ≡ w)
 
--- `one-course`. The machine is deterministic: after n steps it is in one state (`machine-after` is a function), and it stops once.
+-- `one-course`. The machine is deterministic: after n steps it is in one state (`machine-after` is a function), and it stops once. Rules out: two runs
+-- of one text that end differently.
 abbrev pub OneCourse : Type 0
 OneCourse =
     (P : Program) (args : List ℕ) (n m : ℕ) (s s′ : State) → machine-after P args n ≡ next s → has-stopped s ≡ true
@@ -95,8 +97,8 @@ abbrev pub OneOutcome : Type 0
 OneOutcome =
     ((text : List ℕ) (heads : List Head) (a b : Checked) (x y : List Head) → CheckAllows text heads a x → CheckAllows text heads b y → (a ≡ b) × (x ≡ y))
     × ((text code : List ℕ) (a b : Checked) (x y : List ℕ) → TranslateAllows text code a x → TranslateAllows text code b y → (a ≡ b) × (x ≡ y))
-    × ((text args : List ℕ) (limit : ℕ) (code work : List ℕ) (a b : Answer) (x y z w : List ℕ) → RunAllows text args limit code work a x z → RunAllows text args limit code work b y w
-    → (a ≡ b) × (x ≡ y) × (z ≡ w))
+    × ((text args : List ℕ) (limit : ℕ) (code work : List ℕ) (a b : Answer) (x y z w : List ℕ)
+    → RunAllows text args limit code work a x z → RunAllows text args limit code work b y w → (a ≡ b) × (x ≡ y) × (z ≡ w))
 
 -- 8. The demands once more, from the bytes of a text to the fields of Run's answer; `code` and `work` are the lengths of the lent slices.
 
@@ -114,8 +116,10 @@ abbrev pub RunLimitsAreTheMachines : Type 0
 RunLimitsAreTheMachines =
     (text args : List ℕ) (limit code work steps rewrites : ℕ) →
     let answer = run-answer text args limit code work in
-    (((answer .number ≡ 9) × (answer .steps ≡ steps) × (answer .rewrites ≡ rewrites)) ↔ ((P : Program) × Admitted text args code work P × MeetsStepLimit P args limit steps rewrites))
-    × (((answer .number ≡ 10) × (answer .steps ≡ steps) × (answer .rewrites ≡ rewrites)) ↔ ((P : Program) × Admitted text args code work P × MeetsHeightLimit P args limit steps rewrites))
+    (((answer .number ≡ 9) × (answer .steps ≡ steps) × (answer .rewrites ≡ rewrites))
+    ↔ ((P : Program) × Admitted text args code work P × MeetsStepLimit P args limit steps rewrites))
+    × (((answer .number ≡ 10) × (answer .steps ≡ steps) × (answer .rewrites ≡ rewrites))
+    ↔ ((P : Program) × Admitted text args code work P × MeetsHeightLimit P args limit steps rewrites))
     × ((v : ℕ) → ((answer .number ≡ 0) × (answer .value ≡ v) × (answer .steps ≡ steps) × (answer .rewrites ≡ rewrites))
     ↔ ((P : Program) × Admitted text args code work P × StopsInLimits P args limit v steps rewrites))
 
