@@ -54,8 +54,7 @@ InTime =
     ⊎ ((steps rewrites : ℕ) × (run-program P args limit ≡ ended DEEP 0 steps rewrites) × Passes P args)
 
 -- `machine-agrees`. What both demands rest on, the paper's theorem with the rewrites counted: the machine without limits stops with v after n rewrites
--- exactly where leftmost rewriting reaches v in n, and then within the bound. Rules out: a rule with a
--- value on which the machine never stops.
+-- exactly where leftmost rewriting reaches v in n, and then within the bound. Rules out: a rule with a value on which the machine never stops.
 abbrev pub MachineAgrees : Type 0
 MachineAgrees =
     (text : List ℕ) (P : Program) (args : List ℕ) (n v : ℕ) → check text ≡ fine P → fitting P args ≡ true
@@ -92,7 +91,7 @@ Height =
     × (environment-height s ≡ return-height s)
 
 -- 7. `one-outcome`. Two outcomes that the contracts of Check, Translate and Run allow for one input are equal, in every answer field and every lent word and
--- head. Rules out: a Check or Translate that writes nothing, an answer field or a lent word left open.
+-- head. Rules out: a contract that leaves one of them open. (That the code meets these contracts is proved with the code.)
 abbrev pub OneOutcome : Type 0
 OneOutcome =
     ((text : List ℕ) (heads : List Head) (a b : Checked) (x y : List Head) → CheckAllows text heads a x → CheckAllows text heads b y → (a ≡ b) × (x ≡ y))
