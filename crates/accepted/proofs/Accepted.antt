@@ -1,19 +1,18 @@
 -- A text that Check accepts holds an accepted program. Assumes nothing.
 use mathlib.Core.Path.{_≡_, refl, ap, sym, _∙_, subst}
-use mathlib.Core.Bool.{Bool, true, false}
-use mathlib.Core.Option.{Option, none, some}
+use mathlib.Core.Option.{some}
 use mathlib.Core.List.{List, [], _∷_, map}
-use Prim.Native.Nat.{ℕ, zero, suc, _+_, _≤_, _<_}
+use Prim.Native.Nat.{ℕ, zero, suc, _+_, _≤_}
 use native.Mathlib.Omega.{arith}
 use lib.ListN.{length, getElem?, length-map}
-use Rattle.meaning.specs.Numbers.{Number, most-depth}
+use Rattle.meaning.specs.Numbers.{most-depth}
 use Rattle.meaning.specs.Text.{Verdict, fine, refused, _>>=_, _>>_, Passed, Line, judge-length, judge-shape, judge-counts, judge-names, lines}
 use Rattle.meaning.specs.Terms.{Term, arg, op, cond, call, Terms, nil, cons, Function, Program, Symbol, symbol, Read, got, fault, nothing-after, read-term, read-body, function-of, read-bodies}
 use Rattle.meaning.specs.Check.{check}
 use Rattle.meaning.specs.Code.{size, bodies-size}
 use Rattle.accepted.specs.Accepted.{depth, Shaped, AllShaped, Called, Sound, Every, Accepted}
-use Rattle.accepted.proofs.Reading.{clash, OnLine, TermGot, TermRead, Strict, term-read}
-use Rattle.accepted.proofs.Lines.{Lined, Lines, shape-lines, symbols, counts-few}
+use Rattle.accepted.proofs.Reading.{clash, OnLine, TermRead, Strict, term-read}
+use Rattle.accepted.proofs.Lines.{Lined, shape-lines, symbols, counts-few}
 
 fine-then : {A : Type 0} (x : Passed) (y : Verdict A) {a : A} → x >> y ≡ fine a → (x ≡ fine tt) × (y ≡ fine a)
 unfolding _>>_

@@ -1,13 +1,12 @@
 -- How long the code is: one instruction a symbol. Assumes nothing.
-use mathlib.Core.Path.{_≡_, refl, ap, sym, _∙_}
-use mathlib.Core.List.{List, [], _∷_, _++_}
-use Prim.Native.Nat.{ℕ, zero, suc, _+_, _-_, _≤_, _<_}
+use mathlib.Core.Path.{_≡_, refl, ap}
+use mathlib.Core.List.{List, [], _∷_}
+use Prim.Native.Nat.{ℕ, zero, suc, _+_, _-_, _≤_}
 use native.Mathlib.Omega.{arith}
 use lib.ListN.{length, length-append}
-use Rattle.meaning.specs.Numbers.{most-symbols, most-arguments}
 use Rattle.meaning.specs.Terms.{Term, arg, op, cond, call, Terms, nil, cons, Function, Program}
-use Rattle.meaning.specs.Code.{size, sizes, count, entrance, row-entrance, code, strict-code, waiting-code, bodies-code, body-entrances, bodies-size, own, initial, ret-address, translation, RET}
-use Rattle.accepted.specs.Accepted.{Sound, Every, Accepted}
+use Rattle.meaning.specs.Code.{size, sizes, count, row-entrance, code, strict-code, waiting-code, bodies-code, body-entrances, bodies-size, own, initial, ret-address, translation}
+use Rattle.accepted.specs.Accepted.{Every, Accepted}
 
 module _ (B : List ℕ) (ret : ℕ) where
   mutual

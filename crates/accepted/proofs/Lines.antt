@@ -1,15 +1,15 @@
 -- What the lines of a text are like that passes the tests of shape and of counts. Assumes nothing.
-use mathlib.Core.Path.{_≡_, refl, ap, sym, _∙_, subst}
+use mathlib.Core.Path.{_≡_, refl}
 use mathlib.Core.Bool.{Bool, true, false, _&&_}
 use mathlib.Core.List.{List, [], _∷_, map}
-use Prim.Native.Nat.{ℕ, zero, suc, _+_, _-_, _≤_, _<_}
+use Prim.Native.Nat.{ℕ, zero, suc, _+_, _≤_}
 use native.Mathlib.Omega.{arith}
 use lib.Dec.{leb, eqb}
-use lib.ListN.{length, getD, length-map}
+use lib.ListN.{length, length-map}
 use borrow.Author.Tests.{leb-true}
 use Rattle.meaning.specs.Basics.{if_then_else_, all}
 use Rattle.meaning.specs.Numbers.{most-functions, most-symbols, most-arguments}
-use Rattle.meaning.specs.Text.{Verdict, fine, refused, Passed, Field, Line, tab, line-end, pieces, onto-first, is-name, is-count, are-sorts, is-sort, forms, first-wrong, wrong-field, judge-line, judge-lines, judge-shape, value, sort-of, line-of, all-but-last, lines, judge-symbols, judge-counts}
+use Rattle.meaning.specs.Text.{fine, refused, Passed, Field, Line, tab, line-end, pieces, onto-first, is-name, is-count, are-sorts, is-sort, forms, first-wrong, wrong-field, judge-line, judge-lines, judge-shape, value, sort-of, line-of, all-but-last, lines, judge-symbols, judge-counts}
 use Rattle.accepted.specs.Accepted.{Every}
 use Rattle.accepted.proofs.Reading.{clash}
 

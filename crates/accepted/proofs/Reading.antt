@@ -4,13 +4,13 @@ use mathlib.Core.Path.{_≡_, refl, ap, sym, _∙_, subst}
 use mathlib.Core.Bool.{Bool, true, false}
 use mathlib.Core.Option.{Option, none, some}
 use mathlib.Core.List.{List, [], _∷_}
-use Prim.Native.Nat.{ℕ, zero, suc, _+_, _-_, _≤_, _<_, max}
+use Prim.Native.Nat.{ℕ, zero, suc, _+_, _≤_, _<_, max}
 use native.Mathlib.Omega.{arith}
 use lib.ListN.{length, getElem?}
 use Rattle.meaning.specs.Basics.{if_then_else_}
-use Rattle.meaning.specs.Arithmetic.{Sort, yes-no, domain, range}
+use Rattle.meaning.specs.Arithmetic.{Sort, yes-no, domain}
 use Rattle.meaning.specs.Text.{Line}
-use Rattle.meaning.specs.Terms.{Term, arg, op, cond, call, Terms, nil, cons, Symbol, argument, operation, condition, function, unknown, Wrong, Takes, takes, cannot, argument-takes, call-takes, takes-of, same-sort, if-sort, Read, got, fault, first-terms, other-terms, strict-of, condition-of, applied, with-arguments, and-more, then-more, read-row, read-taken, read-term}
+use Rattle.meaning.specs.Terms.{Term, arg, call, Terms, nil, cons, Symbol, argument, operation, condition, function, unknown, Takes, takes, cannot, argument-takes, call-takes, takes-of, same-sort, if-sort, Read, got, fault, first-terms, other-terms, strict-of, condition-of, applied, with-arguments, and-more, then-more, read-row, read-taken, read-term}
 use Rattle.meaning.specs.Code.{size, sizes, count}
 use Rattle.accepted.specs.Accepted.{depth, depths, Shaped, AllShaped}
 

@@ -1,7 +1,7 @@
 -- What a program is like that Check accepts: how many functions, arguments and symbols it has, how deep its bodies are, and that every symbol has
 -- the arguments that it takes. Sorts are left out. Assumes nothing.
 use mathlib.Core.Path.{_≡_}
-use mathlib.Core.Option.{Option, some}
+use mathlib.Core.Option.{some}
 use mathlib.Core.List.{List, [], _∷_}
 use Prim.Native.Nat.{ℕ, suc, _+_, _≤_, _<_, max}
 use lib.ListN.{length, getElem?}

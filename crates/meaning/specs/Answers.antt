@@ -1,17 +1,16 @@
 -- Document 01, 'Numbers the engine answers with', last part: what Check, Translate and Run answer, and what every lent slice holds afterwards.
 -- A lent slice is a list of words or heads; of a slice whose contents do not matter only the length is taken. Assumes nothing.
-use mathlib.Core.Path.{_≡_, refl}
 use mathlib.Core.Bool.{Bool, true, false, _&&_}
-use mathlib.Core.List.{List, [], _∷_, _++_}
+use mathlib.Core.List.{List, [], _∷_}
 use Prim.Native.Nat.{ℕ, _+_, _*_}
 use lib.Dec.{leb}
 use lib.ListN.{length, replicate}
-use Rattle.meaning.specs.Basics.{if_then_else_, written-over}
+use Rattle.meaning.specs.Basics.{written-over}
 use Rattle.meaning.specs.Arithmetic.{Sort, number, yes-no}
 use Rattle.meaning.specs.Numbers.{no, HALT, ARGS, ROOM, instruction-words, work-words}
 use Rattle.meaning.specs.Text.{Verdict, fine, refused, _>>=_, _>>_, Passed}
-use Rattle.meaning.specs.Terms.{Function, Program}
-use Rattle.meaning.specs.Check.{check, check-text}
+use Rattle.meaning.specs.Terms.{Program}
+use Rattle.meaning.specs.Check.{check}
 use Rattle.meaning.specs.Code.{size, initial, translation, code-words}
 use Rattle.meaning.specs.Machine.{Ending, ended, run-program}
 use Rattle.meaning.specs.declared.Head.{Head}

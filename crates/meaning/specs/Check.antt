@@ -4,10 +4,10 @@ use mathlib.Core.List.{List, [], _∷_, map}
 use Prim.Native.Nat.{ℕ}
 use Prim.Native.String.{String}
 use Rattle.meaning.specs.Basics.{bytes, all}
-use Rattle.meaning.specs.Arithmetic.{Sort, number, yes-no, sub, domain, range}
-use Rattle.meaning.specs.Numbers.{Number, LINE, TERM}
+use Rattle.meaning.specs.Arithmetic.{number, sub, domain, range}
+use Rattle.meaning.specs.Numbers.{LINE, TERM}
 use Rattle.meaning.specs.Text.{Verdict, fine, refused, _>>=_, _>>_, judge-length, judge-shape, judge-lines, judge-line, judge-counts, judge-symbols, judge-names, lines, line-of, all-but-last, wrong-field, first-wrong, forms, pieces, onto-first, is-visible, is-name, is-count, are-sorts, is-result, value-from, sort-of, same, is-among}
-use Rattle.meaning.specs.Terms.{Term, arg, op, nil, cons, Program, Function, read-bodies, function-of, read-body, nothing-after, read-term, read-taken, read-row, then-more, and-more, with-arguments, applied, condition-of, strict-of, other-terms, first-terms, if-sort, same-sort, takes-of, call-takes, argument-takes, wrong-number, symbol, spelt-in, named, is-decimal}
+use Rattle.meaning.specs.Terms.{arg, op, nil, cons, Program, read-bodies, function-of, read-body, nothing-after, read-term, read-taken, read-row, then-more, and-more, with-arguments, applied, condition-of, strict-of, other-terms, first-terms, if-sort, same-sort, takes-of, call-takes, argument-takes, wrong-number, symbol, spelt-in, named, is-decimal}
 
 -- "Order: 1, then 2 over all lines, 3, 4, then 5 and 6 by the first place"
 unfoldable pub check : List ℕ → Verdict Program

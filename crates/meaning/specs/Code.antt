@@ -6,7 +6,7 @@ use Prim.Native.String.{String}
 use lib.ListN.{length, getD, take, replicate}
 use Rattle.meaning.specs.Arithmetic.{number, Op, constant, add, sub, mul, div, rem, eq, lt, and, or, neg, op-number, op-constant}
 use Rattle.meaning.specs.Numbers.{instruction-words}
-use Rattle.meaning.specs.Terms.{Term, arg, op, cond, call, Terms, nil, cons, Function, Program}
+use Rattle.meaning.specs.Terms.{Term, arg, op, cond, call, Terms, nil, cons, Program}
 use Rattle.meaning.specs.Check.{check-text, found}
 
 -- "Number all symbols in prefix order from 0": how many symbols a term has, and a row of terms.

@@ -1,5 +1,4 @@
 -- Document 01, 'Machine': states, one step, and a run with a limit, as document 000 has them (definitions 69 and 72). Assumes nothing.
-use mathlib.Core.Path.{_≡_, refl}
 use mathlib.Core.Bool.{Bool, true, false, _||_}
 use mathlib.Core.Option.{Option, none, some}
 use mathlib.Core.List.{List, [], _∷_, _++_, map}

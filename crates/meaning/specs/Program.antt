@@ -1,13 +1,13 @@
 -- Document 01, 'The program': from standard input to the one line of output. Assumes nothing.
 use mathlib.Core.Path.{_≡_, refl}
-use mathlib.Core.Bool.{Bool, true, false, _&&_}
+use mathlib.Core.Bool.{Bool, true, _&&_}
 use mathlib.Core.List.{List, [], _∷_, _++_, map}
-use Prim.Native.Nat.{ℕ, zero, suc, _+_, _*_, _/_, _%_}
+use Prim.Native.Nat.{ℕ, _+_, _*_, _/_, _%_}
 use lib.Dec.{leb, eqb}
-use lib.ListN.{length, getD, drop}
-use Rattle.meaning.specs.Basics.{if_then_else_, between, byte, bytes}
+use lib.ListN.{length, drop}
+use Rattle.meaning.specs.Basics.{if_then_else_, byte, bytes}
 use Rattle.meaning.specs.Numbers.{no, ARGS, most-symbols, most-arguments, instruction-words, work-words}
-use Rattle.meaning.specs.Text.{Field, pieces, onto-first, tab, line-end, value, value-from}
+use Rattle.meaning.specs.Text.{Field, pieces, tab, line-end, value}
 use Rattle.meaning.specs.Terms.{is-decimal}
 use Rattle.meaning.specs.Answers.{run-answer}
 use Rattle.meaning.specs.declared.Answer.{Answer}

@@ -5,7 +5,7 @@ use mathlib.Core.List.{List, [], _∷_}
 use Prim.Native.Nat.{ℕ, zero, suc}
 use Prim.Native.String.{String}
 use lib.ListN.{getElem?}
-use Rattle.meaning.specs.Arithmetic.{Op, constant, apply, of-none, of-one, of-two, sum, difference, product, quotient, remainder, equal, less, both, either, opposite}
+use Rattle.meaning.specs.Arithmetic.{Op, apply, of-none, of-one, of-two, sum, difference, product, quotient, remainder, equal, less, both, either, opposite}
 use Rattle.meaning.specs.Terms.{Term, arg, op, cond, call, Terms, nil, cons, Function, Program}
 use Rattle.meaning.specs.Check.{check-text, found}
 use Rattle.meaning.specs.Code.{own, initial}

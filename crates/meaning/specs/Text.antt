@@ -1,10 +1,9 @@
 -- Document 01, 'Rule text': bytes, fields and lines, and what is wrong with a line's shape, with the counts or with the names. Assumes nothing.
 use mathlib.Core.Path.{_≡_, refl}
-use mathlib.Core.Bool.{Bool, true, false, not, _&&_, _||_}
+use mathlib.Core.Bool.{Bool, true, false, _&&_, _||_}
 use mathlib.Core.List.{List, [], _∷_, _++_, map}
-use Prim.Native.Nat.{ℕ, zero, suc, _+_, _-_, _*_, _<_}
-use Prim.Native.String.{String}
-use lib.Dec.{leb, ltb, eqb}
+use Prim.Native.Nat.{ℕ, zero, suc, _+_, _-_, _*_}
+use lib.Dec.{leb, eqb}
 use lib.ListN.{length, getD, drop}
 use Rattle.meaning.specs.Basics.{if_then_else_, between, all, byte, bytes}
 use Rattle.meaning.specs.Arithmetic.{Sort, number, yes-no}

@@ -1,21 +1,21 @@
 -- The program's output is settled by the first 16,514 bytes of its input: the longest first line with its end, and one byte more than the longest
 -- text. Assumes nothing.
-use mathlib.Core.Path.{_≡_, refl, ap, sym, subst, _∙_}
-use mathlib.Core.Bool.{Bool, true, false, _&&_}
-use mathlib.Core.List.{List, [], _∷_, _++_}
-use Prim.Native.Nat.{ℕ, zero, suc, _+_, _-_, _≤_, _<_, min}
+use mathlib.Core.Path.{_≡_, refl, ap, sym, _∙_}
+use mathlib.Core.Bool.{Bool, true, false}
+use mathlib.Core.List.{List, [], _∷_}
+use Prim.Native.Nat.{ℕ, zero, suc, _+_, _≤_, _<_, min}
 use native.Mathlib.Omega.{arith}
 use native.Mathlib.Decide.{decLe}
-use lib.Dec.{leb, eqb}
+use lib.Dec.{eqb}
 use lib.ListN.{length, take, drop, length-take, length-drop}
 use lib.Seq.{take-all, take-take}
-use borrow.Author.Tests.{le-leb, lt-leb}
+use borrow.Author.Tests.{lt-leb}
 use Rattle.meaning.specs.Basics.{if_then_else_}
 use Rattle.meaning.specs.Numbers.{LONG, most-bytes}
-use Rattle.meaning.specs.Text.{Field, Verdict, refused, pieces, tab, line-end, _>>=_, _>>_, judge-length}
+use Rattle.meaning.specs.Text.{Field, refused, pieces, tab, line-end, _>>=_, _>>_, judge-length}
 use Rattle.meaning.specs.Check.{check}
 use Rattle.meaning.specs.Answers.{run-answer, admit-run, answered}
-use Rattle.meaning.specs.Program.{Order, malformed, order, is-first-line, first-line-bytes, limit-and-arguments, ordered, order-of, answer-order, printed, output}
+use Rattle.meaning.specs.Program.{Order, malformed, is-first-line, first-line-bytes, limit-and-arguments, order-of, answer-order, printed, output}
 use Rattle.fields.specs.Fields.{span}
 use Rattle.order.proofs.Laws.{order-unended, order-ended}
 

@@ -3,7 +3,7 @@ use mathlib.Core.Path.{_≡_, refl, ap, sym, subst, _∙_}
 use mathlib.Core.Bool.{Bool, true, false, _&&_}
 use mathlib.Core.Option.{Option, none, some}
 use mathlib.Core.List.{List, [], _∷_, _++_, map, append-nil, append-assoc}
-use Prim.Native.Nat.{ℕ, zero, suc, _+_, _-_, _≤_, _<_, min}
+use Prim.Native.Nat.{ℕ, suc, _+_, _-_, _≤_, _<_}
 use native.Mathlib.Omega.{arith}
 use native.Mathlib.Numerals.{add-one}
 use native.Mathlib.Nat.{zero-add, sub-zero}
@@ -14,9 +14,8 @@ use borrow.Author.Tests.{le-leb, lt-leb, leb-true, leb-false}
 use Rattle.meaning.specs.Basics.{if_then_else_}
 use Rattle.meaning.specs.Text.{Field, pieces, tab, line-end, value}
 use Rattle.meaning.specs.Terms.{is-decimal}
-use Rattle.meaning.specs.Program.{Order, malformed, order, are-decimals, is-first-line, limit-and-arguments, ordered, order-of}
+use Rattle.meaning.specs.Program.{malformed, order, are-decimals, is-first-line, limit-and-arguments, ordered, order-of}
 use Rattle.fields.specs.Fields.{span, rest, decimal-of}
-use Rattle.fields.specs.declared.Decimal.{Decimal}
 use Rattle.fields.specs.declared.Decimal.the-variants.{Not, Value}
 use Rattle.fields.proofs.Laws.{first-piece, next-piece, no-piece}
 use Rattle.order.specs.Asked.{arguments-from, Told, Line, Asks}

@@ -1,7 +1,7 @@
 -- The digits of a number by place, and the bytes of a line as far as it is written. Assumes nothing.
 use mathlib.Core.List.{List, map}
 use Prim.Native.Nat.{ℕ, _+_, _/_, _%_}
-use lib.ListN.{getD, take}
+use lib.ListN.{take}
 use Rattle.meaning.specs.Basics.{byte}
 use Rattle.meaning.specs.Program.{ten-places}
 use Rattle.printing.specs.declared.Printed.{Printed}

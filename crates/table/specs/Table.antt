@@ -1,12 +1,12 @@
 -- The table of symbols: an accepted text as words in prefix order, the initial term first, then the bodies by line, as addresses count them.
 -- For each symbol: its word (what it is), its value (a constant's), and where the term that begins there ends. For each function: its signature
 -- in one word, and the address of its body. Between Check's core, which fills the table, and Translate's, which reads it. Assumes nothing.
-use mathlib.Core.Path.{_≡_, refl}
+use mathlib.Core.Path.{_≡_}
 use mathlib.Core.List.{List, [], _∷_, _++_, map}
-use Prim.Native.Nat.{ℕ, zero, suc, _+_, _*_}
+use Prim.Native.Nat.{ℕ, suc, _+_, _*_}
 use lib.ListN.{length}
-use Rattle.meaning.specs.Arithmetic.{Sort, number, yes-no, Op, constant, add, sub, mul, div, rem, eq, lt, and, or, neg, op-number, op-constant}
-use Rattle.meaning.specs.Terms.{Term, arg, op, cond, call, Terms, nil, cons, Function, Program, Symbol, argument, operation, condition, function, unknown}
+use Rattle.meaning.specs.Arithmetic.{Sort, number, yes-no, Op, constant, add, sub, mul, div, rem, eq, lt, and, or, neg, op-constant}
+use Rattle.meaning.specs.Terms.{Term, arg, op, cond, call, Terms, nil, cons, Program, Symbol, argument, operation, condition, function, unknown}
 use Rattle.meaning.specs.Code.{size, sizes, initial}
 use Rattle.meaning.specs.Answers.{sort-number}
 

@@ -8,7 +8,7 @@ use native.Mathlib.Omega.{arith}
 use lib.ListN.{take, getElem?}
 use Rattle.meaning.specs.Arithmetic.{Sort, yes-no, domain}
 use Rattle.meaning.specs.Terms.{Term, arg, op, cond, call, Terms, nil, cons, Program}
-use Rattle.meaning.specs.Code.{size, sizes, entrance, row-entrance, entrances, Instruction, EVAL}
+use Rattle.meaning.specs.Code.{size, sizes, entrance, row-entrance, entrances, Instruction}
 use Rattle.meaning.specs.Machine.{value, waiting, Environment, Place, at, State, state}
 use Rattle.theorems.proofs.Trees.{Argument, given, waits, Chain, bottom, push, call-frame, Tree, entry-argument, value-argument, waiting-argument, operation, yes-branch, no-branch, body, Row, done, then, row-length}
 use Rattle.theorems.proofs.Sorts.{of-sort, of-sorts, sorted, row-sorted, Sorted, argument-sorted, chain-sorted, value-there, argument-there, call-frame-sorted, few-operands, few-strict, apply-sorted}
