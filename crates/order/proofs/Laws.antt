@@ -63,7 +63,7 @@ unfolding Told
 told-none x limit text r e h = subst (λ y. Told y limit text r) (sym e) h
 
 pub told-some : (x : Option (List ℕ)) (limit text : ℕ) (vs : List ℕ) (r : Asked) → x ≡ some vs
-    → (r .formed ≡ true) × (r .limit ≡ limit) × (r .text ≡ text) × (take (r .count) (r .args) ≡ vs) × (r .count ≤ 8) → Told x limit text r
+    → (r .formed ≡ true) × (r .limit ≡ limit) × (r .text ≡ text) × (take (r .count) (r .args) ≡ vs) × (r .count ≤ 8) × (length (r .args) ≡ 8) → Told x limit text r
 unfolding Told
 told-some x limit text vs r e h = subst (λ y. Told y limit text r) (sym e) h
 
@@ -137,7 +137,7 @@ asked input k r f fs h in-it = rw (leb·suc-suc (length fs) 8) (by (is-decimal f
   where
     by : (d l a : Bool) → Told (if d then (if l && a then some (map value fs) else none) else none) (value f) k r
         → Asks input (if l && (d && a) then order (value f) (map value fs) (drop k input) else malformed) r
-    by true true true h = (h .0, h .1, h .3, h .4, ap (λ t. drop t input) (h .2), omega (arith, h .2))
+    by true true true h = (h .0, h .1, h .3, h .4, h .5, ap (λ t. drop t input) (h .2), omega (arith, h .2))
     by true true false h = h
     by true false true h = h
     by true false false h = h

@@ -24,7 +24,7 @@ arguments-from vs (f ∷ fs) = if leb most-arguments (length vs) then none else 
 -- The struct says what a line with the limit and the arguments asks for.
 unfoldable pub Told : Option (List ℕ) → ℕ → ℕ → Asked → Type 0
 Told none limit text r = r .formed ≡ false
-Told (some vs) limit text r = (r .formed ≡ true) × (r .limit ≡ limit) × (r .text ≡ text) × (take (r .count) (r .args) ≡ vs) × (r .count ≤ most-arguments)
+Told (some vs) limit text r = (r .formed ≡ true) × (r .limit ≡ limit) × (r .text ≡ text) × (take (r .count) (r .args) ≡ vs) × (r .count ≤ most-arguments) × (length (r .args) ≡ most-arguments)
 
 -- The struct says what a line of these fields asks for, the text after it beginning at `text`.
 unfoldable pub Line : List Field → ℕ → Asked → Type 0
@@ -35,4 +35,4 @@ Line (f ∷ fs) text r = Told (if is-decimal f then arguments-from [] fs else no
 unfoldable pub Asks : List ℕ → Order → Asked → Type 0
 Asks input malformed r = r .formed ≡ false
 Asks input (order limit args text) r =
-    (r .formed ≡ true) × (r .limit ≡ limit) × (take (r .count) (r .args) ≡ args) × (r .count ≤ most-arguments) × (drop (r .text) input ≡ text) × (r .text ≤ length input)
+    (r .formed ≡ true) × (r .limit ≡ limit) × (take (r .count) (r .args) ≡ args) × (r .count ≤ most-arguments) × (length (r .args) ≡ most-arguments) × (drop (r .text) input ≡ text) × (r .text ≤ length input)

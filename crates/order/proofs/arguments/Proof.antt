@@ -73,7 +73,7 @@ loop-again : tie.Need-loop-again Inv-loop μ-loop
 loop-again c = (search needs, search needs, laws.one-argument (c .before .before .before .before .before .before .before .before .before .before .args .line .now) (c .before .before .before .before .before .before .before .before .loop .i) (c .before .before .before .before .before .before .before .before .loop .i + 1) (c .before .before .before .before .before .piece-end .result) (omega arith) refl (c .before .before .before .before .before .piece-end .ensures .0) (c .before .before .before .before .before .before .before .before .loop .args) (c .before .before .before .before .before .before .before .before .loop .n) _ (omega arith) (c .before .before .before .before .before .before .before .before .loop .inv .1) (sym (c .before .v .given .1) ∙ c .before .before .before .decimal-value .ensures) ∙ c .before .before .before .before .before .before .before .before .loop .inv .2)
 
 returns-3 : tie.Need-returns-3 Inv-loop μ-loop
-returns-3 c = laws.told-some _ _ _ _ _ (sym (c .before .loop .inv .2) ∙ laws.no-more (c .before .before .before .args .line .now) (c .before .loop .i) (take (c .before .loop .n) (c .before .loop .args)) (omega arith)) (refl, refl, refl, refl, c .before .loop .inv .0)
+returns-3 c = laws.told-some _ _ _ _ _ (sym (c .before .loop .inv .2) ∙ laws.no-more (c .before .before .before .args .line .now) (c .before .loop .i) (take (c .before .loop .n) (c .before .loop .args)) (omega arith)) (refl, refl, refl, refl, c .before .loop .inv .0, c .before .loop .inv .1)
 
 pub arguments-spec : {M : Type 1} → statement M
 arguments-spec =
