@@ -27,18 +27,18 @@ fine-bind (refused n l k) f e = clash (cc)
 fine-same : {A : Type 0} {a b : A} → fine a ≡ fine b → a ≡ b
 fine-same e = cc
 
--- What asks less of a call asks less of a term.
-module _ (C D : ℕ → ℕ → ℕ → Type 0) (weaker : (f s w : ℕ) → C f s w → D f s w) (n : ℕ) where
+-- What asks less of a call asks less of a term, and so do more arguments.
+module _ (C D : ℕ → ℕ → ℕ → Type 0) (weaker : (f s w : ℕ) → C f s w → D f s w) (n m : ℕ) (more : n ≤ m) where
   mutual
     unfolding Shaped
 
-    pub reshaped : (t : Term) → Shaped C n t → Shaped D n t
-    reshaped (arg i) h = h
+    pub reshaped : (t : Term) → Shaped C n t → Shaped D m t
+    reshaped (arg i) h = omega (arith, h, more)
     reshaped (op o ts) h = (h .0, all-reshaped ts (h .1))
     reshaped (cond t x y) h = (reshaped t (h .0), reshaped x (h .1), reshaped y (h .2))
     reshaped (call f ss ws) h = (weaker f _ _ (h .0), all-reshaped ss (h .1), all-reshaped ws (h .2))
 
-    pub all-reshaped : (ts : Terms) → AllShaped C n ts → AllShaped D n ts
+    pub all-reshaped : (ts : Terms) → AllShaped C n ts → AllShaped D m ts
     all-reshaped nil h = tt
     all-reshaped (cons t ts) h = (reshaped t (h .0), all-reshaped ts (h .1))
 
@@ -113,7 +113,7 @@ each-sound {H} Q c (one-given {h = h} {F = F} g r) l =
         few-arguments = omega (arith, l .0 .few-arguments);
         few-strict = omega (arith, l .0 .few-strict, g .strict);
         not-deep = g .deep;
-        shaped = subst (λ n. Shaped (Called Q) n (F .body)) same (reshaped (OnLine H) (Called Q) c (length (h .sorts)) (F .body) (g .fitting));
+        shaped = subst (λ n. Shaped (Called Q) n (F .body)) same (reshaped (OnLine H) (Called Q) c (length (h .sorts)) (length (h .sorts)) (omega arith) (F .body) (g .fitting));
       },
       each-sound Q c r (l .1),
     )

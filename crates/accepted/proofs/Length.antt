@@ -1,11 +1,15 @@
--- How long the code is: one instruction a symbol. Assumes nothing.
-use mathlib.Core.Path.{_≡_, refl, ap}
+-- How long the code is: one instruction a symbol, twelve words an instruction. Assumes nothing.
+use mathlib.Core.Path.{_≡_, refl, ap, _∙_}
 use mathlib.Core.List.{List, [], _∷_}
-use Prim.Native.Nat.{ℕ, zero, suc, _+_, _-_, _≤_}
+use Prim.Native.Nat.{ℕ, suc, _+_, _*_, _≤_}
 use native.Mathlib.Omega.{arith}
-use lib.ListN.{length, length-append}
-use Rattle.meaning.specs.Terms.{Term, arg, op, cond, call, Terms, nil, cons, Function, Program}
-use Rattle.meaning.specs.Code.{size, sizes, count, row-entrance, code, strict-code, waiting-code, bodies-code, body-entrances, bodies-size, own, initial, ret-address, translation}
+use lib.ListN.{length, take, drop, length-append, length-take, length-replicate}
+use lib.Seq.{take-at}
+use Rattle.meaning.specs.Basics.{written-over}
+use Rattle.meaning.specs.Numbers.{instruction-words}
+use Rattle.meaning.specs.Terms.{Term, arg, op, cond, call, Terms, nil, cons, Program}
+use Rattle.meaning.specs.Code.{size, sizes, row-entrance, code, strict-code, waiting-code, bodies-code, body-entrances, bodies-size, initial, ret-address, translation, Instruction, used-words, twelve, code-words}
+use Rattle.accepted.proofs.Initial.{initial-size}
 use Rattle.accepted.specs.Accepted.{Every, Accepted}
 
 module _ (B : List ℕ) (ret : ℕ) where
@@ -41,22 +45,6 @@ translation-length P =
     let B = body-entrances P n in
     simp length-append (omega (arith, length-code B ret (initial P) 0 ret, length-bodies B ret P n))
 
-own-sizes : (n i : ℕ) → sizes (own n i) ≡ n
-unfolding own size
-own-sizes zero i = refl
-own-sizes (suc n) i = omega (arith, own-sizes n (suc i))
-
-pub own-count : (n i : ℕ) → count (own n i) ≡ n
-unfolding own count
-own-count zero i = refl
-own-count (suc n) i = ap suc (own-count n (suc i))
-
-pub initial-size : (F : Function) (P : Program) → F .strict ≤ length (F .sorts) → size (initial (F ∷ P)) ≡ suc (length (F .sorts))
-unfolding initial size
-initial-size F P h =
-    let n = length (F .sorts) - F .strict in
-    omega (arith, own-sizes (F .strict) 0, own-sizes n (F .strict))
-
 -- "The largest code is 1,034 instructions": 9 symbols of the initial term, 1,024 of the bodies, and RET.
 pub translation-few : (P : Program) → Accepted P → length (translation P) ≤ 1034
 unfolding ret-address Every
@@ -64,3 +52,18 @@ translation-few [] h = absurd (omega (arith, h .some-function))
 translation-few (F ∷ P) h =
     let s = h .sound .0 in
     omega (arith, translation-length (F ∷ P), initial-size F P (s .few-strict), s .few-arguments, h .few-symbols)
+
+-- Twelve words an instruction.
+pub twelve-long : (ws : List ℕ) → length (twelve ws) ≡ instruction-words
+unfolding twelve
+twelve-long ws = simp (length-take, length-append, length-replicate) (omega arith)
+
+pub words-long : (is : List Instruction) → length (code-words is) ≡ instruction-words * length is
+unfolding code-words
+words-long [] = refl
+words-long (i ∷ is) = length-append (twelve (used-words i)) (code-words is) ∙ omega (arith, twelve-long (used-words i), words-long is)
+
+-- Code words at the beginning of a longer slice: as many as the instructions need are theirs.
+pub words-of-written : (is : List Instruction) (code : List ℕ) → take (instruction-words * length is) (written-over (code-words is) code) ≡ code-words is
+unfolding written-over
+words-of-written is code = take-at (code-words is) (drop (length (code-words is)) code) (instruction-words * length is) (words-long is)

@@ -1,1 +1,1 @@
-// The figures of document 01, proved over one table in specs/. No functions.
+// The figures of document 01, proved over one table, and document 000's Example 73: specs/. No functions.

@@ -5,12 +5,20 @@ ghost use Prim.Native.Nat.{_+_, _-_, _%_};
 ghost use Rattle.meaning.specs.Arithmetic.{modulus, sum, product, quotient, remainder, equal, less, both, either, opposite};
 ghost use Rattle.word.specs.Operated.{operated};
 
-const MODULUS: u64 = 4294967296;
+// The last operation's number, and the only one that takes one value: `!`.
+pub const NEGATION: u32 = 10;
 
 fn plus(a: u32, b: u32) -> u32
     ensures { λ r. ⌜ r ≡ sum a b ⌝ }
 {
     std::num::wrapping_add_u32(a, b)
+}
+
+// A word as a size, to count and index with.
+pub fn wide(a: u32) -> usize
+    ensures { λ r. ⌜ r ≡ a ⌝ }
+{
+    a as usize
 }
 
 // `difference`, written out.
@@ -25,7 +33,7 @@ fn times(a: u32, b: u32) -> u32
     ensures { λ r. ⌜ r ≡ product a b ⌝ }
 {
     let whole = (a as u64) * (b as u64);
-    (whole % MODULUS) as u32
+    (whole % 4294967296) as u32
 }
 
 fn divided(a: u32, b: u32) -> u32
@@ -70,7 +78,7 @@ fn or(a: u32, b: u32) -> u32
     1
 }
 
-pub fn not(a: u32) -> u32
+fn not(a: u32) -> u32
     ensures { λ r. ⌜ r ≡ opposite a ⌝ }
 {
     if a == 0 { 1 } else { 0 }
@@ -90,7 +98,7 @@ pub fn operate(number: u32, a: u32, b: u32) -> u32
         7 => below(a, b),
         8 => and(a, b),
         9 => or(a, b),
-        10 => not(a),
+        NEGATION => not(a),
         _ => 0,
     }
 }

@@ -1,0 +1,4 @@
+pub mod Meeting
+pub mod Operations
+pub mod Lookups
+pub mod Calls

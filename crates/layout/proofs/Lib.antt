@@ -1,0 +1,7 @@
+pub mod Rows
+pub mod Levels
+pub mod Slots
+pub mod Reading
+pub mod Steps
+pub mod Runs
+pub mod Translated
