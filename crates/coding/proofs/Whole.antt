@@ -8,12 +8,11 @@ use native.Mathlib.Omega.{arith}
 use lib.ListN.{length, getD, getElem?, take, drop, replicate, length-append}
 use lib.Seq.{take-at, getD-drop}
 use Rattle.meaning.specs.Basics.{written-over}
-use Rattle.meaning.specs.Arithmetic.{Sort, number, yes-no}
 use Rattle.meaning.specs.Numbers.{most-arguments, most-functions, most-depth, instruction-words}
 use Rattle.meaning.specs.Terms.{Term, arg, op, cond, call, Terms, nil, cons, Function, Program}
 use Rattle.meaning.specs.Code.{size, sizes, count, entrance, entrances, row-entrance, Instruction, RET, code, strict-code, waiting-code, bodies-code, body-entrances, bodies-size, initial, ret-address, translation, used-words, twelve, code-words}
-use Rattle.meaning.specs.Answers.{sort-number}
-use Rattle.table.specs.Table.{term-words, row-words, term-values, row-values, term-ends, row-ends, mask, signature, bodies-words, table-words, bodies-values, table-values, bodies-ends, table-ends, signatures, Begins, Holds}
+use Rattle.table.specs.Table.{term-words, row-words, term-values, row-values, term-ends, row-ends, signature, bodies-words, table-words, bodies-values, table-values, bodies-ends, table-ends, signatures, Begins, Holds}
+use Rattle.table.proofs.Signatures.{signature-strict}
 use Rattle.accepted.specs.Accepted.{depth, depths, Shaped, AllShaped, Called, Sound, Every, Accepted}
 use Rattle.accepted.proofs.Accepted.{reshaped, every-there}
 use Rattle.accepted.proofs.Reading.{clash}
@@ -29,30 +28,6 @@ use Rattle.accepted.proofs.Length.{words-long}
 use Rattle.coding.proofs.Emitting.{words-joined}
 
 -- Signatures.
-doubled : ℕ → ℕ
-doubled zero = 1
-doubled (suc n) = 2 * doubled n
-
-some-doubled : (n : ℕ) → 1 ≤ doubled n
-unfolding doubled
-some-doubled zero = omega arith
-some-doubled (suc n) = omega (arith, some-doubled n)
-
-sort-low : (s : Sort) → sort-number s ≤ 1
-unfolding sort-number
-sort-low number = omega arith
-sort-low yes-no = omega arith
-
-mask-low : (n : ℕ) (S : List Sort) → length S ≤ n → mask S < doubled n
-unfolding mask doubled
-mask-low n [] h = some-doubled n
-mask-low zero (s ∷ S) h = absurd (omega (arith, h))
-mask-low (suc n) (s ∷ S) h = omega (arith, mask-low n S (omega (arith, h)), sort-low s)
-
-signature-strict : (S : List Sort) (k : ℕ) (r : Sort) → length S ≤ most-arguments → strict-in (signature S k r) ≡ k
-unfolding signature doubled
-signature-strict S k r h = let low : mask S < 256 = mask-low most-arguments S h in omega (arith, sort-low r)
-
 signature-at : (P : Program) (rest : List ℕ) (f : ℕ) (F : Function) → getElem? P f ≡ some F → getD (signatures P ++ rest) f 0 ≡ signature (F .sorts) (F .strict) (F .result)
 unfolding signatures
 signature-at [] rest f F e = clash (cc)

@@ -1,21 +1,29 @@
 -- Laws of fields: pieces by place, forms, decimals, packed names. Assumes nothing.
 use mathlib.Core.Path.{_≡_, refl, ap, sym, _∙_}
 use mathlib.Core.List.{List, [], _∷_}
-use mathlib.Core.Bool.{Bool, true, false, _&&_, and-assoc}
+use mathlib.Core.Bool.{Bool, true, false, _&&_, _||_, and-assoc}
 use Prim.Native.Nat.{ℕ, zero, suc, _+_, _-_, _*_, _^_, _<_, _≤_}
 use native.Mathlib.Omega.{arith}
 use native.Mathlib.Numerals.{add-one}
 use native.Mathlib.Nat.{pow-succ', pow-le-pow-right}
-use lib.ListN.{length, getD, drop, take, drop-of-length-le}
-use lib.Seq.{drop-cons, drop-drop}
+use lib.ListN.{length, getD, drop, take, drop-of-length-le, length-drop}
+use lib.Seq.{drop-cons, drop-drop, take-all, getD-drop, length-take-le}
 use lib.Dec.{ltb, leb, eqb}
 use borrow.Author.Tests.{lt-ltb, le-ltb, eq-eqb, ne-eqb, le-leb, lt-leb, leb-true, leb-false, eqb-true, eqb-false}
-use Rattle.meaning.specs.Basics.{if_then_else_, between, all}
-use Rattle.meaning.specs.Text.{Field, pieces, onto-first, is-visible, is-name, is-count, are-sorts, is-result, is-sort, is-digit, is-capital, value-from, same}
+use Rattle.meaning.specs.Basics.{if_then_else_, between, all, byte}
+use Rattle.meaning.specs.Text.{Field, pieces, onto-first, is-visible, is-name, is-count, are-sorts, is-result, is-sort, is-digit, is-capital, value, value-from, same}
 use Rattle.meaning.specs.Terms.{is-decimal}
-use Rattle.fields.specs.Fields.{span, rest, occurrences, is-name-byte, count-of, decimal-of, digits-from, packed}
+use Rattle.fields.specs.Fields.{span, rest, visible-span, occurrences, is-name-byte, count-of, decimal-of, digits-from, packed}
+use Rattle.fields.specs.declared.Strict.{Strict}
 use Rattle.fields.specs.declared.Strict.the-variants as strict
+use Rattle.fields.specs.declared.Decimal.{Decimal}
 use Rattle.fields.specs.declared.Decimal.the-variants.{Not, Value}
+
+-- Tests.
+
+and-false : (t : Bool) → t && false ≡ false
+and-false true = refl
+and-false false = refl
 
 -- Pieces.
 
@@ -64,6 +72,117 @@ span-here b s i h e = rw (drop-cons s i 0, eq-eqb _ _ e) (omega arith)
 pub span-on : (b : ℕ) (s : List ℕ) (i : ℕ) → i < length s → (getD s i 0 ≡ b → ⊥) → (i + 1) + span b (drop (i + 1) s) ≡ i + span b (drop i s)
 unfolding span
 span-on b s i h e = rw (drop-cons s i 0, ne-eqb _ _ e, add-one) (omega arith)
+
+-- Visible bytes, and the field that they begin.
+pub visible-stop : (s : List ℕ) (i : ℕ) → length s ≤ i → i + visible-span (drop i s) ≡ i
+unfolding visible-span
+visible-stop s i h = rw (drop-of-length-le s h) (omega arith)
+
+pub visible-here : (s : List ℕ) (i : ℕ) (v : Bool) → i < length s → v ≡ between 33 126 (getD s i 0) → v ≡ false → i + visible-span (drop i s) ≡ i
+unfolding visible-span
+visible-here s i v h x e = rw (drop-cons s i 0, ← x, e) (omega arith)
+
+pub visible-on : (s : List ℕ) (i : ℕ) (v : Bool) → i < length s → v ≡ between 33 126 (getD s i 0) → v ≡ true → (i + 1) + visible-span (drop (i + 1) s) ≡ i + visible-span (drop i s)
+unfolding visible-span
+visible-on s i v h x e = rw (drop-cons s i 0, ← x, e, add-one) (omega arith)
+
+false-is-true : {A : Type 0} → false ≡ true → A
+false-is-true e = let z : _≡_ {A = ℕ} 0 1 = cc in absurd (omega arith)
+
+not-tab : (x : ℕ) → between 33 126 x ≡ true → eqb x 9 ≡ false
+not-tab x e = ne-eqb x 9 λ q. false-is-true (sym (ap (between 33 126) q) ∙ e)
+
+abbrev all-visible : List ℕ → Bool
+all-visible = all (between 33 126)
+
+-- Where they end at the end, they are the field.
+to-end-by : (x : ℕ) (s : List ℕ) (v t : Bool) → between 33 126 x ≡ v → eqb x 9 ≡ t →
+    (length s ≤ visible-span s → (span 9 s ≡ length s) × (all-visible s ≡ true)) → suc (length s) ≤ (if v then suc (visible-span s) else 0) →
+    ((if t then 0 else suc (span 9 s)) ≡ suc (length s)) × (v && all-visible s ≡ true)
+to-end-by x s false t p q ih h = absurd (omega (arith, h))
+to-end-by x s true true p q ih h = false-is-true (sym (not-tab x p) ∙ q)
+to-end-by x s true false p q ih h = let k = ih (omega (arith, h)) in (ap suc (k .0), k .1)
+
+to-end : (s : List ℕ) → length s ≤ visible-span s → (span 9 s ≡ length s) × (all-visible s ≡ true)
+unfolding span visible-span all
+to-end [] h = (refl, refl)
+to-end (x ∷ s) h = to-end-by x s (between 33 126 x) (eqb x 9) refl refl (to-end s) h
+
+-- Where they end at a tab, they are the field.
+to-tab-by : (x : ℕ) (s : List ℕ) (v t : Bool) → between 33 126 x ≡ v → eqb x 9 ≡ t →
+    (visible-span s < length s → getD s (visible-span s) 0 ≡ 9 → (span 9 s ≡ visible-span s) × (all-visible (take (visible-span s) s) ≡ true)) →
+    (if v then suc (visible-span s) else 0) < suc (length s) → getD (x ∷ s) (if v then suc (visible-span s) else 0) 0 ≡ 9 →
+    ((if t then 0 else suc (span 9 s)) ≡ (if v then suc (visible-span s) else 0)) × (all-visible (take (if v then suc (visible-span s) else 0) (x ∷ s)) ≡ true)
+unfolding all
+to-tab-by x s false true p q ih h e = (refl, refl)
+to-tab-by x s false false p q ih h e = false-is-true (sym q ∙ eq-eqb x 9 e)
+to-tab-by x s true true p q ih h e = false-is-true (sym (not-tab x p) ∙ q)
+to-tab-by x s true false p q ih h e = let k = ih (omega (arith, h)) e in (ap suc (k .0), simp (p, k .1))
+
+to-tab : (s : List ℕ) → visible-span s < length s → getD s (visible-span s) 0 ≡ 9 → (span 9 s ≡ visible-span s) × (all-visible (take (visible-span s) s) ≡ true)
+unfolding span visible-span
+to-tab [] h e = absurd (omega (arith, h))
+to-tab (x ∷ s) h e = to-tab-by x s (between 33 126 x) (eqb x 9) refl refl (to-tab s) h e
+
+-- Where they end at another byte, the field is not visible.
+to-other-by : (x : ℕ) (s : List ℕ) (v t : Bool) → between 33 126 x ≡ v → eqb x 9 ≡ t →
+    (visible-span s < length s → (getD s (visible-span s) 0 ≡ 9 → ⊥) → all-visible (take (span 9 s) s) ≡ false) →
+    (if v then suc (visible-span s) else 0) < suc (length s) → (getD (x ∷ s) (if v then suc (visible-span s) else 0) 0 ≡ 9 → ⊥) →
+    all-visible (take (if t then 0 else suc (span 9 s)) (x ∷ s)) ≡ false
+unfolding all
+to-other-by x s false true p q ih h e = absurd (e (eqb-true x 9 q))
+to-other-by x s false false p q ih h e = rw p
+to-other-by x s true true p q ih h e = false-is-true (sym (not-tab x p) ∙ q)
+to-other-by x s true false p q ih h e = simp (p, ih (omega (arith, h)) e)
+
+to-other : (s : List ℕ) → visible-span s < length s → (getD s (visible-span s) 0 ≡ 9 → ⊥) → all-visible (take (span 9 s) s) ≡ false
+unfolding span visible-span
+to-other [] h e = absurd (omega (arith, h))
+to-other (x ∷ s) h e = to-other-by x s (between 33 126 x) (eqb x 9) refl refl (to-other s) h e
+
+blank-by : (x : ℕ) (s : List ℕ) (v t : Bool) → between 33 126 x ≡ v → eqb x 9 ≡ t → (if v then suc (visible-span s) else 0) ≡ 0 →
+    leb 1 (length (take (if t then 0 else suc (span 9 s)) (x ∷ s))) && all-visible (take (if t then 0 else suc (span 9 s)) (x ∷ s)) ≡ false
+unfolding all
+blank-by x s true t p q z = absurd (omega (arith, z))
+blank-by x s false true p q z = refl
+blank-by x s false false p q z = rw p (and-false (leb 1 (suc (length (take (span 9 s) s)))))
+
+blank : (s : List ℕ) → visible-span s ≡ 0 → leb 1 (length (take (span 9 s) s)) && all-visible (take (span 9 s) s) ≡ false
+unfolding span visible-span
+blank [] z = refl
+blank (x ∷ s) z = blank-by x s (between 33 126 x) (eqb x 9) refl refl z
+
+-- The field that begins at a, its visible bytes ending at e.
+module _ (l : List ℕ) (a e : ℕ) (h : a ≤ length l) (q : e ≡ a + visible-span (drop a l)) where
+  abbrev the-field : List ℕ
+  the-field = take (span 9 (drop a l)) (drop a l)
+
+  pub sight-end : length l ≤ e → e ≤ length l → (a < e) → (span 9 (drop a l) ≡ e - a) × (is-visible the-field ≡ true)
+  unfolding is-visible
+  sight-end k m o =
+      let y = to-end (drop a l) (omega (arith, length-drop a l)) in
+      let n : span 9 (drop a l) ≡ e - a = omega (arith, y .0, length-drop a l) in
+      let all-in : take (span 9 (drop a l)) (drop a l) ≡ drop a l = take-all (span 9 (drop a l)) (drop a l) (omega (arith, y .0)) in
+      (n, rw all-in (rw (le-leb 1 (length (drop a l)) (omega (arith, length-drop a l))) (y .1)))
+
+  sight-at : getD (drop a l) (visible-span (drop a l)) 0 ≡ getD l e 0
+  sight-at = getD-drop a l (visible-span (drop a l)) 0 ∙ ap (λ (k : ℕ). getD l k 0) (sym q)
+
+  pub sight-tab : e < length l → getD l e 0 ≡ 9 → (a < e) → (span 9 (drop a l) ≡ e - a) × (is-visible the-field ≡ true)
+  unfolding is-visible
+  sight-tab k t o =
+      let y = to-tab (drop a l) (omega (arith, length-drop a l)) (sight-at ∙ t) in
+      let n : span 9 (drop a l) ≡ e - a = omega (arith, y .0) in
+      let some : 1 ≤ length the-field = rw (length-take-le (span 9 (drop a l)) (drop a l) (span-within 9 (drop a l))) (omega (arith, n)) in
+      (n, rw (le-leb 1 (length the-field) some) (ap (λ (k : ℕ). all-visible (take k (drop a l))) (y .0) ∙ y .1))
+
+  pub sight-other : e < length l → (getD l e 0 ≡ 9 → ⊥) → is-visible the-field ≡ false
+  unfolding is-visible
+  sight-other k t = rw (to-other (drop a l) (omega (arith, length-drop a l)) (λ z. t (sym sight-at ∙ z))) (and-false (leb 1 (length the-field)))
+
+  pub sight-none : e ≡ a → is-visible the-field ≡ false
+  unfolding is-visible
+  sight-none z = blank (drop a l) (omega (arith, q))
 
 -- Occurrences, counted from the end.
 pub occurs-none : (b : ℕ) (s : List ℕ) (i : ℕ) → length s ≤ i → 0 ≡ occurrences b (drop i s)
@@ -131,10 +250,6 @@ none-visible s e = rw (lt-leb 1 (length s) (omega (arith, e)))
 pub some-visible : (s : List ℕ) → (length s ≡ 0 → ⊥) → all (between 33 126) s ≡ is-visible s
 unfolding is-visible
 some-visible s e = rw (le-leb 1 (length s) (positive (length s) e))
-
-and-false : (t : Bool) → t && false ≡ false
-and-false true = refl
-and-false false = refl
 
 pub name-none : (f : List ℕ) → length f ≡ 0 → false ≡ is-name f
 unfolding is-name

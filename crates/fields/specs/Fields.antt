@@ -1,9 +1,9 @@
 -- Fields by place: where a piece of a text ends and what stands after it; a field's digit, decimal and number. Assumes nothing.
-use mathlib.Core.Bool.{Bool, _||_}
+use mathlib.Core.Bool.{Bool, true, false, _&&_, _||_}
 use mathlib.Core.List.{List, [], _∷_}
-use Prim.Native.Nat.{ℕ, suc, _+_, _-_, _*_}
+use Prim.Native.Nat.{ℕ, zero, suc, _+_, _-_, _*_}
 use lib.Dec.{leb, ltb, eqb}
-use Rattle.meaning.specs.Basics.{if_then_else_, byte}
+use Rattle.meaning.specs.Basics.{if_then_else_, between, byte}
 use Rattle.meaning.specs.Arithmetic.{modulus}
 use Rattle.meaning.specs.Text.{Field, pieces, is-capital, is-digit, is-count, value}
 use Rattle.meaning.specs.Terms.{is-decimal}
@@ -20,6 +20,11 @@ span b (x ∷ xs) = if eqb x b then 0 else suc (span b xs)
 unfoldable pub rest : ℕ → List ℕ → List Field
 rest b [] = []
 rest b (x ∷ xs) = pieces b xs
+
+-- How many visible bytes stand at the beginning.
+unfoldable pub visible-span : List ℕ → ℕ
+visible-span [] = 0
+visible-span (x ∷ xs) = if between 33 126 x then suc (visible-span xs) else 0
 
 unfoldable pub occurrences : ℕ → List ℕ → ℕ
 occurrences b [] = 0

@@ -5,7 +5,7 @@ ghost use Prim.Native.Nat.{ℕ, _+_, _≤_, _<_};
 ghost use lib.ListN.{length, drop};
 ghost use Rattle.meaning.specs.Text.{is-visible, is-name, are-sorts, is-result, is-capital, is-digit, is-sort};
 ghost use Rattle.meaning.specs.Basics.{between};
-ghost use Rattle.fields.specs.Fields.{span, occurrences, count-of, decimal-of, digits-from, packed, is-name-byte};
+ghost use Rattle.fields.specs.Fields.{span, visible-span, occurrences, count-of, decimal-of, digits-from, packed, is-name-byte};
 
 // A field's digit, or that it is none.
 pub enum Strict {
@@ -63,6 +63,23 @@ pub fn occurrences_of(s: &[u8], b: u8) -> usize
         }
     }
     n
+}
+
+// Where the visible bytes that begin at `from` end.
+pub fn visible_end(s: &[u8], from: usize) -> usize
+    requires { ⌜ from ≤ length (now s) ⌝ }
+    ensures is { λ r. ⌜ r ≡ from + visible-span (drop from (now (s .entry))) ⌝ }
+    ensures within { λ r. ⌜ (from ≤ r) × (r ≤ length (now (s .entry))) ⌝ }
+{
+    let mut i: usize = from;
+    while i < s.len() {
+        if visible_byte(s[i]) {
+            i += 1;
+        } else {
+            return i;
+        }
+    }
+    i
 }
 
 fn visible_byte(b: u8) -> bool

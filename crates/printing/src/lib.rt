@@ -68,7 +68,7 @@ fn first_place(n: u32) -> usize
 // One byte more.
 fn push(line: Printed, b: u8) -> Printed
     requires { ⌜ line .len < 66 ⌝ }
-    ensures { λ r. ⌜ (shown r ≡ shown line ++ (b ∷ [])) × (r .len ≡ line .len + 1) ⌝ }
+    ensures { λ r. ⌜ (shown r ≡ shown line ++ (b ∷ [])) × (r .len ≡ line .len + 1) × (length (r .bytes) ≡ 66) ⌝ }
 {
     let mut next = line;
     let at = line.len;
@@ -94,14 +94,14 @@ fn put_decimal(line: Printed, n: u32) -> Printed
 // A decimal and the byte after it.
 fn put_field(line: Printed, n: u32, end: u8) -> Printed
     requires { ⌜ line .len + 11 ≤ 66 ⌝ }
-    ensures { λ r. ⌜ (shown r ≡ shown line ++ printed-field n end) × (r .len ≤ line .len + 11) ⌝ }
+    ensures { λ r. ⌜ (shown r ≡ shown line ++ printed-field n end) × (r .len ≤ line .len + 11) × (length (r .bytes) ≡ 66) ⌝ }
 {
     push(put_decimal(line, n), end)
 }
 
 // The whole line.
 pub fn print(answer: Answer) -> Printed
-    ensures { λ r. ⌜ (shown r ≡ printed answer) × (r .len ≤ 66) ⌝ }
+    ensures { λ r. ⌜ (shown r ≡ printed answer) × (r .len ≤ length (r .bytes)) ⌝ }
 {
     let start = Printed {
         bytes: [0; 66],

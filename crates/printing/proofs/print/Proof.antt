@@ -38,7 +38,7 @@ returns c = (
     append-assoc,
     nothing-shown,
   ),
-  omega arith,
+  omega (arith, c .put-field6 .ensures .2),
 )
 
 pub print-spec : {M : Type 1} → statement M

@@ -20,7 +20,7 @@ returns c =
     let line = c .before .before .args .line in
     let n = c .before .before .args .n in
     let e = c .before .before .args .end in
-    (c .push .ensures .0 ∙ ap (λ l. l ++ (e ∷ [])) (c .before .put-decimal .ensures .0) ∙ append-assoc (shown line) (decimal n) (e ∷ []), omega arith)
+    (c .push .ensures .0 ∙ ap (λ l. l ++ (e ∷ [])) (c .before .put-decimal .ensures .0) ∙ append-assoc (shown line) (decimal n) (e ∷ []), omega arith, c .push .ensures .2)
 
 pub put-field-spec : {M : Type 1} → statement M
 put-field-spec = tie.close (tie.spec put-decimal-requires push-requires returns)

@@ -1,0 +1,115 @@
+-- `bodies::fill` meets its contract. Assumes nothing.
+use lib.ListN.{length-set}
+use native.Mathlib.Omega.{arith}
+use mathlib.Core.Path.{_≡_, refl, ap, _∙_}
+use Rattle.fields.proofs.Laws as fields-laws
+use Rattle.fields.specs.Fields.{rest}
+use Rattle.lines.proofs.Splice as splices
+use Rattle.lines.specs.Splice.{splice}
+use Rattle.bodies.specs.Bodies.{words-by, values-by}
+use Rattle.bodies.proofs.Laws as laws
+use borrow.Author.Needs.{needs}
+use Prim.Native.Nat.{_+_, _-_}
+use lib.ListN.{length, drop}
+use Rattle.bodies.proofs.fill.Statement.{statement}
+use Rattle.bodies.proofs.fill.Tie as tie
+
+abbrev Inv-loop : tie.InvT-loop
+Inv-loop line at names from words₀ values₀ i₀ j₀ words values i j = (j + length (rest 9 (drop i line)) ≡ from + length (rest 9 (drop at line))) × (length words ≡ length words₀) × (length values ≡ length values₀) × (splice words j (words-by names (rest 9 (drop i line))) ≡ splice words₀ from (words-by names (rest 9 (drop at line)))) × (splice values j (values-by names (rest 9 (drop i line))) ≡ splice values₀ from (values-by names (rest 9 (drop at line))))
+
+abbrev μ-loop : tie.MeasureT-loop
+μ-loop line at names from words₀ values₀ i₀ j₀ words values i j = length line - i
+
+loop-holds : tie.Need-loop-holds Inv-loop μ-loop
+loop-holds c = (refl, refl, refl, refl, refl)
+
+add-a : tie.Need-add-a Inv-loop μ-loop
+add-a c = search needs
+
+piece-end-requires : tie.Need-piece-end-requires Inv-loop μ-loop
+piece-end-requires c κs = search needs
+
+sub-symbol-of : tie.Need-sub-symbol-of Inv-loop μ-loop
+sub-symbol-of c = search needs
+
+part-symbol-of-start : tie.Need-part-symbol-of-start Inv-loop μ-loop
+part-symbol-of-start c = search needs
+
+part-symbol-of-end : tie.Need-part-symbol-of-end Inv-loop μ-loop
+part-symbol-of-end c = search needs
+
+symbol-of-requires : tie.Need-symbol-of-requires Inv-loop μ-loop
+symbol-of-requires c κs = search needs
+
+word-requires : tie.Need-word-requires Inv-loop μ-loop
+word-requires c κs = laws.word-fits _ _ _ (c .symbol-of .ensures) (omega (arith, c .before .before .before .before .before .before .before .before .before .pre .0))
+
+mul-words : tie.Need-mul-words Inv-loop μ-loop
+mul-words c = search needs
+
+slice-write-words : tie.Need-slice-write-words Inv-loop μ-loop
+slice-write-words c = omega (arith, c .before .before .before .before .before .loop .inv .0, c .before .before .before .before .before .loop .inv .1, c .before .before .before .before .before .before .before .before .before .before .pre .1 .0, laws.one-field (c .before .before .before .before .before .before .before .before .before .before .args .names .now) (c .before .before .before .before .before .before .before .before .before .before .args .line .now) (c .before .before .before .before .before .loop .i) _ (c .before .before .before .before .loop-test .taken) (c .before .before .before .piece-end .ensures .0))
+
+value-requires : tie.Need-value-requires Inv-loop μ-loop
+value-requires c κs = search needs
+
+mul-values : tie.Need-mul-values Inv-loop μ-loop
+mul-values c = search needs
+
+slice-write-values : tie.Need-slice-write-values Inv-loop μ-loop
+slice-write-values c = omega (arith, c .before .before .before .before .before .before .loop .inv .0, c .before .before .before .before .before .before .loop .inv .2, c .before .before .before .before .before .before .before .before .before .before .before .pre .1 .1, laws.one-field (c .before .before .before .before .before .before .before .before .before .before .before .args .names .now) (c .before .before .before .before .before .before .before .before .before .before .before .args .line .now) (c .before .before .before .before .before .before .loop .i) _ (c .before .before .before .before .before .loop-test .taken) (c .before .before .before .before .piece-end .ensures .0))
+
+add-j : tie.Need-add-j Inv-loop μ-loop
+add-j c = omega (arith, c .before .before .before .before .before .before .loop .inv .0, c .before .before .before .before .before .before .loop .inv .1, c .before .before .before .before .before .before .before .before .before .before .before .pre .1 .0, laws.one-field (c .before .before .before .before .before .before .before .before .before .before .before .args .names .now) (c .before .before .before .before .before .before .before .before .before .before .before .args .line .now) (c .before .before .before .before .before .before .loop .i) _ (c .before .before .before .before .before .loop-test .taken) (c .before .before .before .before .piece-end .ensures .0))
+
+loop-less : tie.Need-loop-less Inv-loop μ-loop
+loop-less c = search needs
+
+loop-again : tie.Need-loop-again Inv-loop μ-loop
+loop-again c =
+    let l = c .before .before .before .before .before .before .loop in
+    let x = laws.one-field (c .before .before .before .before .before .before .before .before .before .before .before .args .names .now) (c .before .before .before .before .before .before .before .before .before .before .before .args .line .now) (c .before .before .before .before .before .before .loop .i) _ (c .before .before .before .before .before .loop-test .taken) (c .before .before .before .before .piece-end .ensures .0) in (
+      omega (arith, x, l .inv .0),
+      simp length-set (l .inv .1),
+      simp length-set (l .inv .2),
+      splices.write-on (l .words) (l .j) _ _ _ _ (omega (arith, x, l .inv .0, l .inv .1, c .before .before .before .before .before .before .before .before .before .before .before .pre .1 .0)) (laws.word-is _ _ _ _ (c .before .before .symbol-of .ensures) (c .before .word .ensures)) (laws.one-word (c .before .before .before .before .before .before .before .before .before .before .before .args .names .now) (c .before .before .before .before .before .before .before .before .before .before .before .args .line .now) (c .before .before .before .before .before .before .loop .i) _ (c .before .before .before .before .before .loop-test .taken) (c .before .before .before .before .piece-end .ensures .0)) ∙ l .inv .3,
+      splices.write-on (l .values) (l .j) _ _ _ _ (omega (arith, x, l .inv .0, l .inv .2, c .before .before .before .before .before .before .before .before .before .before .before .pre .1 .1)) (laws.value-is _ _ _ _ (c .before .before .symbol-of .ensures) (c .value .ensures)) (laws.one-value (c .before .before .before .before .before .before .before .before .before .before .before .args .names .now) (c .before .before .before .before .before .before .before .before .before .before .before .args .line .now) (c .before .before .before .before .before .before .loop .i) _ (c .before .before .before .before .before .loop-test .taken) (c .before .before .before .before .piece-end .ensures .0)) ∙ l .inv .4,
+    )
+
+same-length : tie.Need-same-length Inv-loop μ-loop
+same-length c = search needs
+
+same-length-2 : tie.Need-same-length-2 Inv-loop μ-loop
+same-length-2 c = search needs
+
+returns : tie.Need-returns Inv-loop μ-loop
+returns c =
+    let l = c .before .loop in
+    let x = fields-laws.no-piece 9 (c .before .before .before .before .before .before .args .line .now) (l .i) (c .loop-test .left) in
+    (omega (arith, ap length x, l .inv .0), (splices.write-done (l .words) (l .j) _ (laws.no-words (c .before .before .before .before .before .before .args .names .now) _ x) ∙ l .inv .3, splices.write-done (l .values) (l .j) _ (laws.no-values (c .before .before .before .before .before .before .args .names .now) _ x) ∙ l .inv .4))
+
+pub fill-spec : {M : Type 1} → statement M
+fill-spec =
+    tie.close
+    (tie.spec
+    Inv-loop
+    μ-loop
+    loop-holds
+    add-a
+    piece-end-requires
+    sub-symbol-of
+    part-symbol-of-start
+    part-symbol-of-end
+    symbol-of-requires
+    word-requires
+    mul-words
+    slice-write-words
+    value-requires
+    mul-values
+    slice-write-values
+    add-j
+    loop-less
+    loop-again
+    same-length
+    same-length-2
+    returns)

@@ -1,0 +1,155 @@
+// The bodies of a text by line: each body's fields go as symbols into the table, then the table is read as one term. Two looks at each byte (where a
+// line and its fields end), one to make a symbol of a field, one comparison a function for a name. Assumes nothing.
+use terms::Reached;
+use terms::Wrong;
+ghost use mathlib.Core.Path.{_≡_};
+ghost use mathlib.Core.List.{map};
+ghost use Prim.Native.Nat.{ℕ, _+_, _-_, _≤_, _<_};
+ghost use lib.ListN.{length, drop};
+ghost use Rattle.meaning.specs.Text.{wrong-field, pieces, lines};
+ghost use Rattle.meaning.specs.Terms.{read-bodies};
+ghost use Rattle.fields.specs.Fields.{rest};
+ghost use Rattle.lines.specs.Splice.{splice};
+ghost use Rattle.lines.specs.Lines.{body-fields, Right, raw-lines, name-number, line-signature};
+ghost use Rattle.bodies.specs.Bodies.{words-by, values-by, number-of, Lined, Reaches, Finishes, total};
+
+// What reading all bodies comes to: the address after the last, or number, line and field.
+pub enum Finished {
+    Done(usize),
+    Refused(u32, u32, u32),
+}
+
+// The field of a body's first symbol.
+const FIRST_SYMBOL: usize = 5;
+
+fn narrow(x: usize) -> u32
+    requires { ⌜ x < 4294967296 ⌝ }
+    ensures { λ r. ⌜ r ≡ x ⌝ }
+{
+    x as u32
+}
+
+// The fields after the tab at `at` as symbols, into the table from `from` on; the address after them.
+fn fill(
+    line: &[u8],
+    at: usize,
+    names: &[u64],
+    from: usize,
+    words: &mut [u32],
+    values: &mut [u32],
+) -> usize
+    requires { ⌜ length (now names) ≤ 64 ⌝ }
+    requires { ⌜ (from + length (rest 9 (drop at (now line))) ≤ length (now words)) × (from + length (rest 9 (drop at (now line))) ≤ length (now values)) ⌝ }
+    ensures place { λ r. ⌜ r ≡ from + length (rest 9 (drop at (now (line .entry)))) ⌝ }
+    ensures words { λ _. ⌜ now (words .exit) ≡ splice (now (words .entry)) from (words-by (now (names .entry)) (rest 9 (drop at (now (line .entry))))) ⌝ }
+    ensures values { λ _. ⌜ now (values .exit) ≡ splice (now (values .entry)) from (values-by (now (names .entry)) (rest 9 (drop at (now (line .entry))))) ⌝ }
+{
+    let mut i: usize = at;
+    let mut j: usize = from;
+    while i < line.len() {
+        let a = i + 1;
+        let e = fields::piece_end(line, a, fields::TAB);
+        let y = symbols::symbol_of(names, &line[a..e]);
+        words[j] = symbols::word(y);
+        values[j] = symbols::value(y);
+        i = e;
+        j += 1;
+    }
+    j
+}
+
+// One line's body: filled in and read as one term of a function that has the signature `own`.
+fn read_line(
+    line: &[u8],
+    names: &[u64],
+    heads: &[u32],
+    own: u32,
+    from: usize,
+    words: &mut [u32],
+    values: &mut [u32],
+    ends: &mut [u32],
+) -> Reached
+    requires { ⌜ (length (now names) ≤ 64) × (wrong-field (pieces 9 (now line)) ≡ 0) ⌝ }
+    requires { ⌜ (from + body-fields (now line) ≤ length (now words)) × (from + body-fields (now line) ≤ length (now values)) × (from + body-fields (now line) ≤ length (now ends)) × (from + body-fields (now line) ≤ 2048) ⌝ }
+    ensures read { λ r. ⌜ Lined (now (line .entry)) (now (names .entry)) (now (heads .entry)) own from (now (words .entry)) (now (words .exit)) (now (values .entry)) (now (values .exit)) (now (ends .entry)) (now (ends .exit)) r ⌝ }
+    ensures within { λ r. ⌜ Reaches from (body-fields (now (line .entry))) r ⌝ }
+{
+    let t = lines::tabs_of(line);
+    let at = t.result;
+    let to = fill(line, at, names, from, words, values);
+    terms::read_body(&words[0..to], heads, own, from, ends)
+}
+
+// The number that the engine answers.
+fn number(w: Wrong) -> u32
+    ensures { λ r. ⌜ r ≡ number-of w ⌝ }
+{
+    match w {
+        Wrong::UnknownSymbol => meaning::TERM,
+        Wrong::LackingArgument => meaning::TERM,
+        Wrong::OtherSort => meaning::TERM,
+        Wrong::EarlyEnd => meaning::TERM,
+        Wrong::LeftOver => meaning::TERM,
+        Wrong::TooDeep => meaning::NEST,
+    }
+}
+
+// What is wrong at address p of line l counted from 0, whose body begins at `from`.
+fn fault(w: Wrong, l: usize, from: usize, p: usize) -> Finished
+    requires { ⌜ (from ≤ p) × (p ≤ 2048) × (l ≤ 64) ⌝ }
+    ensures { λ r. ⌜ r ≡ Finished.Refused (number-of w) (l + 1) (5 + (p - from)) ⌝ }
+{
+    Finished::Refused(number(w), narrow(l + 1), narrow(FIRST_SYMBOL + (p - from)))
+}
+
+// The bodies of the lines that begin at `at`, the first of them being line l counted from 0, into the table from `from` on.
+pub fn read_lines(
+    text: &[u8],
+    at: usize,
+    l: usize,
+    names: &[u64],
+    heads: &[u32],
+    from: usize,
+    bodies: &mut [u32],
+    words: &mut [u32],
+    values: &mut [u32],
+    ends: &mut [u32],
+) -> Finished
+    requires { ⌜ (length (now text) ≤ 16384) × Right (raw-lines (now text)) × Right (raw-lines (drop at (now text))) × (drop l (lines (now text)) ≡ lines (drop at (now text))) ⌝ }
+    requires { ⌜ (now names ≡ map name-number (lines (now text))) × (now heads ≡ map line-signature (lines (now text))) × (length (lines (now text)) ≤ 64) × (l ≤ 64) ⌝ }
+    requires { ⌜ (length (lines (now text)) ≤ length (now bodies)) × (from + total (lines (drop at (now text))) ≤ length (now words)) × (from + total (lines (drop at (now text))) ≤ length (now values)) × (from + total (lines (drop at (now text))) ≤ length (now ends)) × (from + total (lines (drop at (now text))) ≤ 2048) ⌝ }
+    ensures { λ r. ⌜ Finishes l from (now (bodies .entry)) (now (bodies .exit)) (now (words .entry)) (now (words .exit)) (now (values .entry)) (now (values .exit)) (now (ends .entry)) (now (ends .exit)) (read-bodies (lines (now (text .entry))) (l + 1) (lines (drop at (now (text .entry))))) r ⌝ }
+{
+    if text.len() <= at {
+        return Finished::Done(from);
+    }
+    let e = fields::piece_end(text, at, fields::LINE_END);
+    if text.len() <= e {
+        return Finished::Done(from);
+    }
+    bodies[l] = narrow(from);
+    match read_line(
+        &text[at..e],
+        names,
+        heads,
+        heads[l],
+        from,
+        words,
+        values,
+        ends,
+    ) {
+        Reached::Next(next) => read_lines(
+            text,
+            e + 1,
+            l + 1,
+            names,
+            heads,
+            next,
+            bodies,
+            words,
+            values,
+            ends,
+        ),
+        Reached::Fault(w, p) => fault(w, l, from, p),
+    }
+}

@@ -1,0 +1,12 @@
+-- `nespralha::room` meets its contract. Assumes nothing.
+use Rattle.meaning.specs.Numbers.{no}
+use borrow.Author.Needs.{needs}
+use Rattle.nespralha.proofs.room.Statement.{statement}
+use Rattle.nespralha.proofs.room.Tie as tie
+
+returns : tie.Need-returns
+unfolding no
+returns c = search needs
+
+pub room-spec : {M : Type 1} → statement M
+room-spec = tie.close (tie.spec returns)

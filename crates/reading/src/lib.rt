@@ -1,0 +1,182 @@
+// The core of Check: any bytes to an answer and, where they are accepted, to names, signatures, addresses and the table of symbols in lent arrays.
+// Its cost grows linearly with the text but for names: a comparison for each pair of functions and for each symbol and function. Assumes nothing.
+use bodies::Finished;
+use lines::Judgement;
+use meaning::Checked;
+ghost use mathlib.Core.Path.{_≡_};
+ghost use mathlib.Core.List.{map, _∷_};
+ghost use Prim.Native.Nat.{ℕ, _+_, _%_, _≤_, _<_};
+ghost use lib.ListN.{length};
+ghost use Rattle.meaning.specs.Text.{fine, judge-shape, lines};
+ghost use Rattle.meaning.specs.Terms.{Program};
+ghost use Rattle.meaning.specs.Check.{check};
+ghost use Rattle.meaning.specs.Answers.{checked};
+ghost use Rattle.table.specs.Table.{Holds};
+ghost use Rattle.lines.specs.Splice.{splice};
+ghost use Rattle.lines.specs.Lines.{Right, raw-lines, name-number, line-signature};
+ghost use Rattle.bodies.specs.Bodies.{total};
+ghost use Rattle.reading.specs.Reading.{refusal, acceptance, upto, zeros, after-shape, after-counts, after-names, Outcome, Fit};
+
+// How long the lent arrays of functions and of symbols are at least.
+pub const TABLE_FUNCTIONS: usize = 64;
+
+pub const TABLE_SYMBOLS: usize = 1034;
+
+fn narrow(x: usize) -> u32
+    requires { ⌜ x < 4294967296 ⌝ }
+    ensures { λ r. ⌜ r ≡ x ⌝ }
+{
+    x as u32
+}
+
+fn refused(number: u32, line: u32, field: u32) -> Checked
+    ensures { λ r. ⌜ r ≡ refusal number line field ⌝ }
+{
+    Checked {
+        number,
+        line,
+        field,
+        functions: 0,
+        instructions: 0,
+    }
+}
+
+// The last instruction is RET.
+fn accepted(functions: usize, end: usize) -> Checked
+    requires { ⌜ (functions ≤ 64) × (end ≤ 2048) ⌝ }
+    ensures { λ r. ⌜ r ≡ acceptance functions (end + 1) ⌝ }
+{
+    Checked {
+        number: meaning::HALT,
+        line: 0,
+        field: 0,
+        functions: narrow(functions),
+        instructions: narrow(end + 1),
+    }
+}
+
+// The n arguments that the initial term's function is applied to: from address 1 on.
+fn fill_own(n: usize, words: &mut [u32], values: &mut [u32], ends: &mut [u32])
+    requires { ⌜ (n < 16) × (16 ≤ length (now words)) × (16 ≤ length (now values)) × (16 ≤ length (now ends)) ⌝ }
+    ensures words { λ _. ⌜ now (words .exit) ≡ splice (now (words .entry)) 1 (upto n 1) ⌝ }
+    ensures values { λ _. ⌜ now (values .exit) ≡ splice (now (values .entry)) 1 (zeros n) ⌝ }
+    ensures ends { λ _. ⌜ now (ends .exit) ≡ splice (now (ends .entry)) 1 (upto n 2) ⌝ }
+{
+    let mut i: usize = 1;
+    while i <= n {
+        words[i] = narrow(i);
+        values[i] = 0;
+        ends[i] = narrow(i + 1);
+        i += 1;
+    }
+}
+
+// "The initial term is the entry applied to its own arguments": the address after it.
+fn initial(own: u32, words: &mut [u32], values: &mut [u32], ends: &mut [u32]) -> usize
+    requires { ⌜ (16 ≤ length (now words)) × (16 ≤ length (now values)) × (16 ≤ length (now ends)) ⌝ }
+    ensures place { λ r. ⌜ r ≡ own % 16 + 1 ⌝ }
+    ensures words { λ _. ⌜ now (words .exit) ≡ splice (now (words .entry)) 0 (32 ∷ upto (own % 16) 1) ⌝ }
+    ensures values { λ _. ⌜ now (values .exit) ≡ splice (now (values .entry)) 0 (0 ∷ zeros (own % 16)) ⌝ }
+    ensures ends { λ _. ⌜ now (ends .exit) ≡ splice (now (ends .entry)) 0 ((own % 16 + 1) ∷ upto (own % 16) 2) ⌝ }
+{
+    let n = (own % 16) as usize;
+    words[0] = symbols::FIRST_FUNCTION;
+    values[0] = 0;
+    ends[0] = narrow(n + 1);
+    fill_own(n, words, values, ends);
+    n + 1
+}
+
+// A text whose shape, counts and names pass: the bodies.
+fn read_named(
+    text: &[u8],
+    names: &[u64],
+    heads: &[u32],
+    bodies: &mut [u32],
+    words: &mut [u32],
+    values: &mut [u32],
+    ends: &mut [u32],
+) -> Checked
+    requires { ⌜ (length (now text) ≤ 16384) × Right (raw-lines (now text)) × (0 < length (lines (now text))) × (length (lines (now text)) ≤ 64) × (total (lines (now text)) ≤ 1024) ⌝ }
+    requires { ⌜ (now names ≡ map name-number (lines (now text))) × (now heads ≡ map line-signature (lines (now text))) ⌝ }
+    requires { ⌜ Fit (now bodies) (now words) (now values) (now ends) ⌝ }
+    ensures { λ r. ⌜ Outcome (after-names (now (text .entry))) (now (words .exit)) (now (values .exit)) (now (ends .exit)) (now (heads .entry)) (now (bodies .exit)) r ⌝ }
+{
+    let first = initial(heads[0], words, values, ends);
+    match bodies::read_lines(text, 0, 0, names, heads, first, bodies, words, values, ends) {
+        Finished::Done(end) => accepted(heads.len(), end),
+        Finished::Refused(number, line, field) => refused(number, line, field),
+    }
+}
+
+// A text whose shape and counts pass: names and signatures, then the bodies.
+fn read_counted(
+    text: &[u8],
+    names: &mut [u64],
+    heads: &mut [u32],
+    bodies: &mut [u32],
+    words: &mut [u32],
+    values: &mut [u32],
+    ends: &mut [u32],
+) -> Checked
+    requires { ⌜ (length (now text) ≤ 16384) × Right (raw-lines (now text)) × (0 < length (lines (now text))) × (length (lines (now text)) ≤ 64) × (total (lines (now text)) ≤ 1024) ⌝ }
+    requires { ⌜ (64 ≤ length (now names)) × (64 ≤ length (now heads)) × Fit (now bodies) (now words) (now values) (now ends) ⌝ }
+    ensures { λ r. ⌜ Outcome (after-counts (now (text .entry))) (now (words .exit)) (now (values .exit)) (now (ends .exit)) (now (heads .exit)) (now (bodies .exit)) r ⌝ }
+{
+    let n = lines::fill_heads(text, names, heads);
+    match lines::repeats(&names[0..n]) {
+        Judgement::Passes => read_named(
+            text,
+            &names[0..n],
+            &heads[0..n],
+            bodies,
+            words,
+            values,
+            ends,
+        ),
+        Judgement::Refused(number, line, field) => refused(number, line, field),
+    }
+}
+
+// A text whose shape passes.
+fn read_shaped(
+    text: &[u8],
+    names: &mut [u64],
+    heads: &mut [u32],
+    bodies: &mut [u32],
+    words: &mut [u32],
+    values: &mut [u32],
+    ends: &mut [u32],
+) -> Checked
+    requires { ⌜ (length (now text) ≤ 16384) × (judge-shape (now text) ≡ fine tt) ⌝ }
+    requires { ⌜ (64 ≤ length (now names)) × (64 ≤ length (now heads)) × Fit (now bodies) (now words) (now values) (now ends) ⌝ }
+    ensures { λ r. ⌜ Outcome (after-shape (now (text .entry))) (now (words .exit)) (now (values .exit)) (now (ends .exit)) (now (heads .exit)) (now (bodies .exit)) r ⌝ }
+{
+    match lines::counts(text) {
+        Judgement::Passes => read_counted(text, names, heads, bodies, words, values, ends),
+        Judgement::Refused(number, line, field) => refused(number, line, field),
+    }
+}
+
+// "Order: 1, then 2 over all lines, 3, 4, then 5 and 6 by the first place"
+pub fn read(
+    text: &[u8],
+    names: &mut [u64],
+    heads: &mut [u32],
+    bodies: &mut [u32],
+    words: &mut [u32],
+    values: &mut [u32],
+    ends: &mut [u32],
+) -> Checked
+    requires { ⌜ (64 ≤ length (now names)) × (64 ≤ length (now heads)) × Fit (now bodies) (now words) (now values) (now ends) ⌝ }
+    ensures answer { λ r. ⌜ r ≡ checked (check (now (text .entry))) ⌝ }
+    ensures table { λ _. ⌜ ((P : Program) → check (now (text .entry)) ≡ fine P → Holds P (now (words .exit)) (now (values .exit)) (now (ends .exit)) (now (heads .exit)) (now (bodies .exit))) ⌝ }
+{
+    if meaning::MOST_BYTES < text.len() {
+        return refused(meaning::LONG, 0, 0);
+    }
+    match lines::shape(text) {
+        Judgement::Passes => read_shaped(text, names, heads, bodies, words, values, ends),
+        Judgement::Refused(number, line, field) => refused(number, line, field),
+    }
+}

@@ -1,0 +1,105 @@
+-- Symbols as an enum, and by packed names: what each case is of the definition's symbols. Assumes nothing.
+use mathlib.Core.Bool.{Bool, true, false}
+use mathlib.Core.List.{List, [], _∷_}
+use Prim.Native.Nat.{ℕ, zero, suc, _+_, _<_}
+use lib.Dec.{ltb, eqb}
+use lib.ListN.{length, getD}
+use Rattle.meaning.specs.Basics.{if_then_else_, bytes}
+use Rattle.meaning.specs.Arithmetic.{Sort, number, yes-no, Op, constant, add, sub, mul, div, rem, eq, lt, and, or, neg, op-number}
+use Rattle.meaning.specs.Numbers.{most-arguments}
+use Rattle.meaning.specs.Text.{Field, value}
+use Rattle.meaning.specs.Terms.{Symbol as Means, argument, operation, condition, function, unknown, is-decimal, symbol}
+use Rattle.table.specs.Table.{symbol-word}
+use Rattle.fields.specs.Fields.{packed}
+use Rattle.symbols.specs.declared.Symbol.{Symbol}
+use Rattle.symbols.specs.declared.Symbol.the-variants.{Argument, Number, Truth, Operation, Condition, Function, Unknown}
+
+-- The case that a symbol of the definition is.
+unfoldable pub shown-op : Op → Symbol
+shown-op (constant number v) = Number v
+shown-op (constant yes-no v) = Truth v
+shown-op add = Operation 1
+shown-op sub = Operation 2
+shown-op mul = Operation 3
+shown-op div = Operation 4
+shown-op rem = Operation 5
+shown-op eq = Operation 6
+shown-op lt = Operation 7
+shown-op and = Operation 8
+shown-op or = Operation 9
+shown-op neg = Operation 10
+
+unfoldable pub shown : Means → Symbol
+shown (argument i) = Argument i
+shown (operation o) = shown-op o
+shown condition = Condition
+shown (function k) = Function k
+shown unknown = Unknown
+
+-- A case's word and value in the table.
+unfoldable pub word-of : Symbol → ℕ
+word-of (Argument i) = i + 1
+word-of (Number v) = 9
+word-of (Truth v) = 10
+word-of (Operation o) = 10 + o
+word-of Condition = 21
+word-of (Function k) = 32 + k
+word-of Unknown = 0
+
+unfoldable pub value-of : Symbol → ℕ
+value-of (Argument i) = 0
+value-of (Number v) = v
+value-of (Truth v) = v
+value-of (Operation o) = 0
+value-of Condition = 0
+value-of (Function k) = 0
+value-of Unknown = 0
+
+-- A symbol that a text can spell: its arguments are a to h.
+unfoldable pub Spelt : Means → Type 0
+Spelt (argument i) = i < most-arguments
+Spelt (operation o) = Unit {0}
+Spelt condition = Unit {0}
+Spelt (function k) = Unit {0}
+Spelt unknown = Unit {0}
+
+unfoldable pub All-spelt : List Means → Type 0
+All-spelt [] = Unit {0}
+All-spelt (y ∷ ys) = Spelt y × All-spelt ys
+
+-- By packed names.
+
+-- "function names": the first of the packed names that a packed field is, counted from i.
+unfoldable pub named-as : ℕ → List ℕ → ℕ → Means
+named-as i [] p = unknown
+named-as i (n ∷ ns) p = if eqb p n then function i else named-as (i + 1) ns p
+
+-- The word of a byte that is a symbol whatever names there are.
+unfoldable pub short-word : ℕ → ℕ
+short-word b = symbol-word (symbol [] (b ∷ []))
+
+unfoldable pub one-byte-symbol : List ℕ → Field → Means
+one-byte-symbol M f = if eqb (short-word (getD f 0 0)) 0 then named-as 0 M (packed f) else symbol [] (getD f 0 0 ∷ [])
+
+unfoldable pub decimal-or : Field → Means → Means
+decimal-or f y = if is-decimal f then operation (constant number (value f)) else y
+
+unfoldable pub some-bytes-symbol : List ℕ → Field → Means
+unfolding packed
+some-bytes-symbol M f =
+    if eqb (packed f) (packed (bytes "true"))
+    then operation (constant yes-no 1)
+    else if eqb (packed f) (packed (bytes "false"))
+    then operation (constant yes-no 0)
+    else if eqb (packed f) (packed (bytes "cond"))
+    then condition
+    else decimal-or f (named-as 0 M (packed f))
+
+-- The symbol that a field is, where the functions have the packed names M.
+unfoldable pub symbol-by : List ℕ → Field → Means
+symbol-by M f =
+    if eqb (length f) 1
+    then one-byte-symbol M f
+    else if ltb 8 (length f)
+    then decimal-or f unknown
+    else some-bytes-symbol M f

@@ -1,0 +1,378 @@
+-- `terms::read_args` and `terms::read_term` meet their contracts. Assumes nothing.
+use native.Mathlib.Omega.{arith}
+use mathlib.Core.Path.{sym, _∙_}
+use Rattle.terms.specs.Terms.{Within}
+use Rattle.terms.proofs.Laws as laws
+use borrow.Author.Needs.{needs}
+use Prim.Native.Nat.{ℕ, _+_, _-_, _*_, _<_}
+use lib.ListN.{length}
+use borrow.Fn.Kinds.{In}
+use borrow.Fn.PlainCycle.{Measures, is, falls, and}
+use Rattle.terms.proofs.read_args.Reads as read-args
+use Rattle.terms.proofs.read_args.Kinds as read-args-kinds
+use Rattle.terms.proofs.+read_args+read_term.Lts-read_args as read-args-lts
+use Rattle.terms.proofs.read_term.Reads as read-term
+use Rattle.terms.proofs.read_term.Kinds as read-term-kinds
+use Rattle.terms.proofs.+read_args+read_term.Lts-read_term as read-term-lts
+use Rattle.terms.proofs.judge.Reads as judge-reads
+use Rattle.terms.proofs.narrow.Reads as narrow-reads
+use Rattle.terms.proofs.+read_args+read_term.{statement}
+use Rattle.terms.proofs.+read_args+read_term.Tie.{close}
+
+abbrev μ-read-args : Measures 3 read-args-kinds.ps ℕ
+μ-read-args κs a = 20 * a .1 .1 .1 .1 .0 + a .1 .1 .1 .1 .1 .0 + 1
+
+abbrev μ-read-term : Measures 3 read-term-kinds.ps ℕ
+μ-read-term κs a = 20 * a .1 .1 .1 .1 .0
+
+abbrev read-args-at : ℕ → In 3 read-args-kinds.ps
+read-args-at t = and 3 read-args-kinds.ps (is 3 read-args-kinds.ps μ-read-args t) read-args.Pre
+
+abbrev read-args-below : ℕ → In 3 read-args-kinds.ps
+read-args-below t =
+    and 3 read-args-kinds.ps (falls 3 read-args-kinds.ps _<_ μ-read-args t) read-args.Pre
+
+abbrev read-term-at : ℕ → In 3 read-term-kinds.ps
+read-term-at t = and 3 read-term-kinds.ps (is 3 read-term-kinds.ps μ-read-term t) read-term.Pre
+
+abbrev read-term-below : ℕ → In 3 read-term-kinds.ps
+read-term-below t =
+    and 3 read-term-kinds.ps (falls 3 read-term-kinds.ps _<_ μ-read-term t) read-term.Pre
+
+read-args-returns : (t : ℕ) → read-args-lts.Need-returns (
+  read-term-below t,
+  read-term.Post,
+  read-args-below t,
+  read-args.Post,
+) (read-args-at t) read-args.Post
+unfolding Within
+read-args-returns t c = (laws.args-none _ _ _ _ _ _ _ _ (c .if1 .taken), (omega arith, omega arith))
+
+read-args-read-term-requires : (t : ℕ) → read-args-lts.Need-read-term-requires (
+  read-term-below t,
+  read-term.Post,
+  read-args-below t,
+  read-args.Post,
+) (read-args-at t) read-args.Post
+read-args-read-term-requires t c κs = search needs
+
+read-args-enum-known-next : (t : ℕ) → read-args-lts.Need-enum-known-next (
+  read-term-below t,
+  read-term.Post,
+  read-args-below t,
+  read-args.Post,
+) (read-args-at t) read-args.Post
+read-args-enum-known-next t c = search needs
+
+read-args-sub-read-args : (t : ℕ) → read-args-lts.Need-sub-read-args (
+  read-term-below t,
+  read-term.Post,
+  read-args-below t,
+  read-args.Post,
+) (read-args-at t) read-args.Post
+read-args-sub-read-args t c = search needs
+
+read-args-read-args-requires : (t : ℕ) → read-args-lts.Need-read-args-requires (
+  read-term-below t,
+  read-term.Post,
+  read-args-below t,
+  read-args.Post,
+) (read-args-at t) read-args.Post
+read-args-read-args-requires t c κs = (omega arith, (omega arith, omega arith, omega (arith, laws.within-next _ _ _ _ (c .before .before .before .before .before .before .read-term .ensures .1) (c .before .before .next .given .1) .0)))
+
+read-args-enum-known-w : (t : ℕ) → read-args-lts.Need-enum-known-w (
+  read-term-below t,
+  read-term.Post,
+  read-args-below t,
+  read-args.Post,
+) (read-args-at t) read-args.Post
+read-args-enum-known-w t c = search needs
+
+read-args-same-length : (t : ℕ) → read-args-lts.Need-same-length (
+  read-term-below t,
+  read-term.Post,
+  read-args-below t,
+  read-args.Post,
+) (read-args-at t) read-args.Post
+read-args-same-length t c = search needs
+
+read-args-returns-2 : (t : ℕ) → read-args-lts.Need-returns-2 (
+  read-term-below t,
+  read-term.Post,
+  read-args-below t,
+  read-args.Post,
+) (read-args-at t) read-args.Post
+unfolding Within
+read-args-returns-2 t c = (laws.args-more (c .before .before .before .before .before .before .before .before .before .before .before .before .before .before .before .args .words .now) (c .before .before .before .before .before .before .before .before .before .before .before .before .before .before .before .args .heads .now) (c .before .before .before .before .before .before .before .before .before .before .before .before .before .before .before .args .own) (c .before .before .before .before .before .before .before .before .before .before .before .before .before .before .before .args .at) (c .before .before .before .before .before .before .before .before .before .before .before .before .before .before .before .args .depth) (c .before .before .before .before .before .before .before .before .before .before .before .before .before .before .before .args .count) (c .before .before .before .before .before .before .before .before .before .before .before .before .before .before .before .args .mask) _ (c .before .before .before .before .before .before .before .before .before .before .before .before .before .before .before .args .ends .now) _ _ _ _ (omega arith) (c .before .before .before .before .before .before .before .before .before .before .before .if1 .left) (c .before .before .before .before .before .before .before .before .before .read-term .ensures .0) (c .before .before .before .before .before .next .given .1) (c .before .before .read-args .ensures .0), laws.within-more (length (c .before .before .before .before .before .before .before .before .before .before .before .before .before .before .before .args .words .now)) (c .before .before .before .before .before .before .before .before .before .before .before .before .before .before .before .args .at) (c .before .before .before .before .before .next .given .0 .0) (c .before .before .read-args .result) (laws.within-next _ _ _ _ (c .before .before .before .before .before .before .before .before .before .read-term .ensures .1) (c .before .before .before .before .before .next .given .1) .1) (c .before .before .read-args .ensures .1))
+
+read-args-same-length-2 : (t : ℕ) → read-args-lts.Need-same-length-2 (
+  read-term-below t,
+  read-term.Post,
+  read-args-below t,
+  read-args.Post,
+) (read-args-at t) read-args.Post
+read-args-same-length-2 t c = search needs
+
+read-args-returns-3 : (t : ℕ) → read-args-lts.Need-returns-3 (
+  read-term-below t,
+  read-term.Post,
+  read-args-below t,
+  read-args.Post,
+) (read-args-at t) read-args.Post
+unfolding Within
+read-args-returns-3 t c = (laws.args-fault (c .before .before .before .before .before .before .before .before .before .before .before .args .words .now) (c .before .before .before .before .before .before .before .before .before .before .before .args .heads .now) (c .before .before .before .before .before .before .before .before .before .before .before .args .own) (c .before .before .before .before .before .before .before .before .before .before .before .args .at) (c .before .before .before .before .before .before .before .before .before .before .before .args .depth) (c .before .before .before .before .before .before .before .before .before .before .before .args .count) (c .before .before .before .before .before .before .before .before .before .before .before .args .mask) _ _ (c .before .before .before .before .before .before .before .before .before .before .before .args .ends .now) _ _ (c .before .before .before .before .before .before .before .if1 .left) (c .before .before .before .before .before .read-term .ensures .0) (c .before .w .given .1), laws.within-fault _ _ _ _ _ (c .before .before .before .before .before .read-term .ensures .1) (c .before .w .given .1))
+
+read-term-returns : (t : ℕ) → read-term-lts.Need-returns (
+  judge-reads.Asked,
+  judge-reads.Learnt,
+  read-args-below t,
+  read-args.Post,
+  narrow-reads.Asked,
+  narrow-reads.Learnt,
+) (read-term-at t) read-term.Post
+unfolding Within
+read-term-returns t c = (laws.term-none _ _ _ _ _ _ _ _ (c .if1 .taken), omega arith)
+
+read-term-returns-2 : (t : ℕ) → read-term-lts.Need-returns-2 (
+  judge-reads.Asked,
+  judge-reads.Learnt,
+  read-args-below t,
+  read-args.Post,
+  narrow-reads.Asked,
+  narrow-reads.Learnt,
+) (read-term-at t) read-term.Post
+unfolding Within
+read-term-returns-2 t c = (laws.term-deep _ _ _ _ _ _ _ _ (c .before .if1 .left) (c .if2 .taken), omega arith)
+
+read-term-mul-judge : (t : ℕ) → read-term-lts.Need-mul-judge (
+  judge-reads.Asked,
+  judge-reads.Learnt,
+  read-args-below t,
+  read-args.Post,
+  narrow-reads.Asked,
+  narrow-reads.Learnt,
+) (read-term-at t) read-term.Post
+read-term-mul-judge t c = search needs
+
+read-term-shared-slice-read-judge : (t : ℕ) → read-term-lts.Need-shared-slice-read-judge (
+  judge-reads.Asked,
+  judge-reads.Learnt,
+  read-args-below t,
+  read-args.Post,
+  narrow-reads.Asked,
+  narrow-reads.Learnt,
+) (read-term-at t) read-term.Post
+read-term-shared-slice-read-judge t c = search needs
+
+read-term-judge-requires : (t : ℕ) → read-term-lts.Need-judge-requires (
+  judge-reads.Asked,
+  judge-reads.Learnt,
+  read-args-below t,
+  read-args.Post,
+  narrow-reads.Asked,
+  narrow-reads.Learnt,
+) (read-term-at t) read-term.Post
+read-term-judge-requires t c κs = search needs
+
+read-term-enum-known-w : (t : ℕ) → read-term-lts.Need-enum-known-w (
+  judge-reads.Asked,
+  judge-reads.Learnt,
+  read-args-below t,
+  read-args.Post,
+  narrow-reads.Asked,
+  narrow-reads.Learnt,
+) (read-term-at t) read-term.Post
+read-term-enum-known-w t c = search needs
+
+read-term-enum-known-count : (t : ℕ) → read-term-lts.Need-enum-known-count (
+  judge-reads.Asked,
+  judge-reads.Learnt,
+  read-args-below t,
+  read-args.Post,
+  narrow-reads.Asked,
+  narrow-reads.Learnt,
+) (read-term-at t) read-term.Post
+read-term-enum-known-count t c = search needs
+
+read-term-add-read-args : (t : ℕ) → read-term-lts.Need-add-read-args (
+  judge-reads.Asked,
+  judge-reads.Learnt,
+  read-args-below t,
+  read-args.Post,
+  narrow-reads.Asked,
+  narrow-reads.Learnt,
+) (read-term-at t) read-term.Post
+read-term-add-read-args t c = search needs
+
+read-term-sub-read-args : (t : ℕ) → read-term-lts.Need-sub-read-args (
+  judge-reads.Asked,
+  judge-reads.Learnt,
+  read-args-below t,
+  read-args.Post,
+  narrow-reads.Asked,
+  narrow-reads.Learnt,
+) (read-term-at t) read-term.Post
+read-term-sub-read-args t c = search needs
+
+read-term-read-args-requires : (t : ℕ) → read-term-lts.Need-read-args-requires (
+  judge-reads.Asked,
+  judge-reads.Learnt,
+  read-args-below t,
+  read-args.Post,
+  narrow-reads.Asked,
+  narrow-reads.Learnt,
+) (read-term-at t) read-term.Post
+read-term-read-args-requires t c κs = (omega (arith, laws.few _ _ _ _ _ _ _ (c .before .before .before .before .judge .ensures) (c .before .before .count .given .1)), (omega arith, omega arith, omega arith))
+
+read-term-enum-known-next : (t : ℕ) → read-term-lts.Need-enum-known-next (
+  judge-reads.Asked,
+  judge-reads.Learnt,
+  read-args-below t,
+  read-args.Post,
+  narrow-reads.Asked,
+  narrow-reads.Learnt,
+) (read-term-at t) read-term.Post
+read-term-enum-known-next t c = search needs
+
+read-term-narrow-requires : (t : ℕ) → read-term-lts.Need-narrow-requires (
+  judge-reads.Asked,
+  judge-reads.Learnt,
+  read-args-below t,
+  read-args.Post,
+  narrow-reads.Asked,
+  narrow-reads.Learnt,
+) (read-term-at t) read-term.Post
+read-term-narrow-requires t c κs = omega (arith, laws.within-next _ _ _ _ (c .before .before .before .before .before .read-args .ensures .1) (c .before .next .given .1) .0)
+
+read-term-mul-ends : (t : ℕ) → read-term-lts.Need-mul-ends (
+  judge-reads.Asked,
+  judge-reads.Learnt,
+  read-args-below t,
+  read-args.Post,
+  narrow-reads.Asked,
+  narrow-reads.Learnt,
+) (read-term-at t) read-term.Post
+read-term-mul-ends t c = search needs
+
+read-term-slice-write-ends : (t : ℕ) → read-term-lts.Need-slice-write-ends (
+  judge-reads.Asked,
+  judge-reads.Learnt,
+  read-args-below t,
+  read-args.Post,
+  narrow-reads.Asked,
+  narrow-reads.Learnt,
+) (read-term-at t) read-term.Post
+read-term-slice-write-ends t c = search needs
+
+read-term-enum-known-w-2 : (t : ℕ) → read-term-lts.Need-enum-known-w-2 (
+  judge-reads.Asked,
+  judge-reads.Learnt,
+  read-args-below t,
+  read-args.Post,
+  narrow-reads.Asked,
+  narrow-reads.Learnt,
+) (read-term-at t) read-term.Post
+read-term-enum-known-w-2 t c = search needs
+
+read-term-returns-3 : (t : ℕ) → read-term-lts.Need-returns-3 (
+  judge-reads.Asked,
+  judge-reads.Learnt,
+  read-args-below t,
+  read-args.Post,
+  narrow-reads.Asked,
+  narrow-reads.Learnt,
+) (read-term-at t) read-term.Post
+unfolding Within
+read-term-returns-3 t c = (laws.term-bad (c .before .before .before .before .before .before .before .before .before .before .args .words .now) (c .before .before .before .before .before .before .before .before .before .before .args .heads .now) (c .before .before .before .before .before .before .before .before .before .before .args .own) _ _ _ _ _ _ (c .before .before .before .before .before .before .if1 .left) (c .before .before .before .before .before .if2 .left) (sym (c .before .before .before .judge .ensures) ∙ c .before .w .given .1), omega arith)
+
+read-term-same-length : (t : ℕ) → read-term-lts.Need-same-length (
+  judge-reads.Asked,
+  judge-reads.Learnt,
+  read-args-below t,
+  read-args.Post,
+  narrow-reads.Asked,
+  narrow-reads.Learnt,
+) (read-term-at t) read-term.Post
+read-term-same-length t c = search needs
+
+read-term-returns-4 : (t : ℕ) → read-term-lts.Need-returns-4 (
+  judge-reads.Asked,
+  judge-reads.Learnt,
+  read-args-below t,
+  read-args.Post,
+  narrow-reads.Asked,
+  narrow-reads.Learnt,
+) (read-term-at t) read-term.Post
+unfolding Within
+read-term-returns-4 t c = (laws.term-got (c .before .before .before .before .before .before .before .before .before .before .before .before .before .before .before .before .before .before .args .words .now) (c .before .before .before .before .before .before .before .before .before .before .before .before .before .before .before .before .before .before .args .heads .now) (c .before .before .before .before .before .before .before .before .before .before .before .before .before .before .before .before .before .before .args .own) (c .before .before .before .before .before .before .before .before .before .before .before .before .before .before .before .before .before .before .args .at) (c .before .before .before .before .before .before .before .before .before .before .before .before .before .before .before .before .before .before .args .depth) (c .before .before .before .before .before .before .before .before .before .before .before .before .before .before .before .before .before .before .args .sort) _ _ _ _ (c .before .before .before .before .before .before .before .before .before .before .before .before .before .before .before .before .before .before .args .ends .now) _ _ (c .narrow .ensures) (c .before .before .before .before .before .before .before .before .before .before .before .before .before .before .if1 .left) (omega arith) (c .before .before .before .before .before .before .before .before .before .before .before .before .before .if2 .left) (sym (c .before .before .before .before .before .before .before .before .before .before .before .judge .ensures) ∙ c .before .before .before .before .before .before .before .before .before .count .given .1) (c .before .before .before .before .before .before .read-args .ensures .0) (c .before .before .next .given .1), (laws.within-next _ _ _ _ (c .before .before .before .before .before .before .read-args .ensures .1) (c .before .before .next .given .1) .0, omega (arith, laws.within-next _ _ _ _ (c .before .before .before .before .before .before .read-args .ensures .1) (c .before .before .next .given .1) .1)))
+
+read-term-same-length-2 : (t : ℕ) → read-term-lts.Need-same-length-2 (
+  judge-reads.Asked,
+  judge-reads.Learnt,
+  read-args-below t,
+  read-args.Post,
+  narrow-reads.Asked,
+  narrow-reads.Learnt,
+) (read-term-at t) read-term.Post
+read-term-same-length-2 t c = search needs
+
+read-term-returns-5 : (t : ℕ) → read-term-lts.Need-returns-5 (
+  judge-reads.Asked,
+  judge-reads.Learnt,
+  read-args-below t,
+  read-args.Post,
+  narrow-reads.Asked,
+  narrow-reads.Learnt,
+) (read-term-at t) read-term.Post
+unfolding Within
+read-term-returns-5 t c = (laws.term-fault (c .before .before .before .before .before .before .before .before .before .before .before .before .before .before .before .before .before .args .words .now) (c .before .before .before .before .before .before .before .before .before .before .before .before .before .before .before .before .before .args .heads .now) (c .before .before .before .before .before .before .before .before .before .before .before .before .before .before .before .before .before .args .own) (c .before .before .before .before .before .before .before .before .before .before .before .before .before .before .before .before .before .args .at) (c .before .before .before .before .before .before .before .before .before .before .before .before .before .before .before .before .before .args .depth) (c .before .before .before .before .before .before .before .before .before .before .before .before .before .before .before .before .before .args .sort) _ _ _ _ (c .before .before .before .before .before .before .before .before .before .before .before .before .before .before .before .before .before .args .ends .now) _ _ (c .before .before .before .before .before .before .before .before .before .before .before .before .before .if1 .left) (c .before .before .before .before .before .before .before .before .before .before .before .before .if2 .left) (sym (c .before .before .before .before .before .before .before .before .before .before .judge .ensures) ∙ c .before .before .before .before .before .before .before .before .count .given .1) (c .before .before .before .before .before .read-args .ensures .0) (c .before .w2 .given .1), laws.within-fault _ _ _ _ _ (c .before .before .before .before .before .read-args .ensures .1) (c .before .w2 .given .1))
+
+pub +read-args+read-term-spec : {M : Type 1} → statement M
++read-args+read-term-spec = close μ-read-args μ-read-term (λ t. read-args-lts.spec (
+  read-term-below t,
+  read-term.Post,
+  read-args-below t,
+  read-args.Post,
+)
+    (read-args-at t)
+    read-args.Post
+    (read-args-returns t)
+    (read-args-read-term-requires t)
+    (read-args-enum-known-next t)
+    (read-args-sub-read-args t)
+    (read-args-read-args-requires t)
+    (read-args-enum-known-w t)
+    (read-args-same-length t)
+    (read-args-returns-2 t)
+    (read-args-same-length-2 t)
+    (read-args-returns-3 t))
+    λ t. read-term-lts.spec (
+      judge-reads.Asked,
+      judge-reads.Learnt,
+      read-args-below t,
+      read-args.Post,
+      narrow-reads.Asked,
+      narrow-reads.Learnt,
+    )
+    (read-term-at t)
+    read-term.Post
+    (read-term-returns t)
+    (read-term-returns-2 t)
+    (read-term-mul-judge t)
+    (read-term-shared-slice-read-judge t)
+    (read-term-judge-requires t)
+    (read-term-enum-known-w t)
+    (read-term-enum-known-count t)
+    (read-term-add-read-args t)
+    (read-term-sub-read-args t)
+    (read-term-read-args-requires t)
+    (read-term-enum-known-next t)
+    (read-term-narrow-requires t)
+    (read-term-mul-ends t)
+    (read-term-slice-write-ends t)
+    (read-term-enum-known-w-2 t)
+    (read-term-returns-3 t)
+    (read-term-same-length t)
+    (read-term-returns-4 t)
+    (read-term-same-length-2 t)
+    (read-term-returns-5 t)

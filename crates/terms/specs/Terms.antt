@@ -1,0 +1,109 @@
+-- Terms over words: what a symbol takes by its word, and what reading a term answers and leaves in the table of ends. Assumes nothing.
+use mathlib.Core.Path.{_≡_}
+use mathlib.Core.Bool.{Bool, true, false}
+use mathlib.Core.List.{List, [], _∷_, _++_, map}
+use Prim.Native.Nat.{ℕ, zero, suc, _+_, _-_, _*_, _/_, _%_, _^_, _<_, _≤_}
+use lib.Dec.{ltb, eqb}
+use lib.ListN.{length, getD, drop}
+use Rattle.meaning.specs.Basics.{if_then_else_}
+use Rattle.meaning.specs.Numbers.{most-arguments, most-depth}
+use Rattle.meaning.specs.Arithmetic.{Sort}
+use Rattle.meaning.specs.Text.{Line}
+use Rattle.meaning.specs.Terms as means
+use Rattle.meaning.specs.Terms.{Term, Terms, Symbol, Read, got, fault, read-term, read-row, nothing-after}
+use Rattle.meaning.specs.Code.{size, sizes}
+use Rattle.meaning.specs.Answers.{sort-number}
+use Rattle.table.specs.Table.{symbol-word, term-ends, row-ends, mask, signature}
+use Rattle.symbols.specs.Symbols.{All-spelt}
+use Rattle.lines.specs.Lines.{line-signature}
+use Rattle.lines.specs.Splice.{splice}
+use Rattle.terms.specs.declared.Wrong.{Wrong}
+use Rattle.terms.specs.declared.Wrong.the-variants.{UnknownSymbol, LackingArgument, OtherSort, EarlyEnd, LeftOver, TooDeep}
+use Rattle.terms.specs.declared.Takes.{Takes}
+use Rattle.terms.specs.declared.Takes.the-variants.{Args, Cannot}
+use Rattle.terms.specs.declared.Reached.{Reached}
+use Rattle.terms.specs.declared.Reached.the-variants.{Next, Fault}
+
+-- The cases that the definition's are.
+unfoldable pub shown-wrong : means.Wrong → Wrong
+shown-wrong means.unknown-symbol = UnknownSymbol
+shown-wrong means.lacking-argument = LackingArgument
+shown-wrong means.other-sort = OtherSort
+shown-wrong means.early-end = EarlyEnd
+shown-wrong means.left-over = LeftOver
+shown-wrong means.too-deep = TooDeep
+
+unfoldable pub shown-takes : means.Takes → Takes
+shown-takes (means.takes S r) = Args (length S) (mask S)
+shown-takes (means.cannot w) = Cannot (shown-wrong w)
+
+-- What a symbol takes by its word, in a function that has the signature `own`, where the sort s is expected; the functions have the signatures H.
+unfoldable pub signed-by : ℕ → ℕ → Takes
+signed-by s h = if eqb (h / 16 % 2) s then Args (h % 16) (h / 32 % 256) else Cannot OtherSort
+
+unfoldable pub argument-by : ℕ → ℕ → ℕ → Takes
+argument-by own s i =
+    if ltb i (own % 16)
+    then (if eqb (own / 32 % 256 / 2 ^ i % 2) s then Args 0 0 else Cannot OtherSort)
+    else Cannot LackingArgument
+
+unfoldable pub function-by : List ℕ → ℕ → ℕ → Takes
+function-by H s f = if ltb f (length H) then signed-by s (getD H f 0) else Cannot UnknownSymbol
+
+-- The signatures of the symbols below `cond`.
+unfoldable pub operations : List ℕ
+operations = 0 ∷ 0 ∷ 0 ∷ 0 ∷ 0 ∷ 0 ∷ 0 ∷ 0 ∷ 0 ∷ 0 ∷ 16 ∷ 2 ∷ 2 ∷ 2 ∷ 2 ∷ 2 ∷ 18 ∷ 18 ∷ 114 ∷ 114 ∷ 49 ∷ 0 ∷ 0 ∷ 0 ∷ 0 ∷ 0 ∷ 0 ∷ 0 ∷ 0 ∷ 0 ∷ 0 ∷ 0 ∷ []
+
+unfoldable pub takes-by : List ℕ → ℕ → ℕ → ℕ → Takes
+takes-by H own s w =
+    if eqb w 0
+    then Cannot UnknownSymbol
+    else if ltb w 9
+    then argument-by own s (w - 1)
+    else if eqb w 21
+    then Args 3 (1 + 6 * s)
+    else if ltb w 32
+    then signed-by s (getD operations w 0)
+    else function-by H s (w - 32)
+
+-- The functions that the signatures H stand for, and the sorts of the arguments of one that has the signature `own`.
+unfoldable pub Few : List Line → Type 0
+Few [] = Unit {0}
+Few (h ∷ hs) = (length (h .sorts) ≤ most-arguments) × Few hs
+
+pub record World (H : List ℕ) (own : ℕ) : Type 0 where
+  pub functions : List Line
+  pub arguments : List Sort
+  pub heads : H ≡ map line-signature functions
+  pub few-each : Few functions
+  pub few : length arguments ≤ most-arguments
+  pub count : own % 16 ≡ length arguments
+  pub sorts : own / 32 % 256 ≡ mask arguments
+
+-- The symbols whose words stand from `at` on.
+pub record Symbols (W : List ℕ) (at : ℕ) (ys : List Symbol) : Type 0 where
+  pub here : drop at W ≡ map symbol-word ys
+  pub spelt : All-spelt ys
+
+-- What reading a term at `at` of the words W answers, and leaves in the table of ends.
+unfoldable pub Said : List ℕ → ℕ → List ℕ → List ℕ → Read Term → Reached → Type 0
+Said W at e e′ (got t ys) r = (r ≡ Next (at + size t)) × (e′ ≡ splice e at (term-ends t at))
+Said W at e e′ (fault w ys) r = r ≡ Fault (shown-wrong w) (length W - length ys)
+
+unfoldable pub Saids : List ℕ → ℕ → List ℕ → List ℕ → Read Terms → Reached → Type 0
+Saids W at e e′ (got ts ys) r = (r ≡ Next (at + sizes ts)) × (e′ ≡ splice e at (row-ends ts at))
+Saids W at e e′ (fault w ys) r = r ≡ Fault (shown-wrong w) (length W - length ys)
+
+pub record Told (W H : List ℕ) (own at d s : ℕ) (e e′ : List ℕ) (r : Reached) : Type 0 where
+  pub told : (w : World H own) (σ : Sort) (ys : List Symbol) → s ≡ sort-number σ → Symbols W at ys → Said W at e e′ (read-term (w .functions) (w .arguments) d σ ys) r
+
+pub record Tolds (W H : List ℕ) (own at d n m : ℕ) (e e′ : List ℕ) (r : Reached) : Type 0 where
+  pub tolds : (w : World H own) (S : List Sort) (ys : List Symbol) → n ≡ length S → m ≡ mask S → Symbols W at ys → Saids W at e e′ (read-row (read-term (w .functions) (w .arguments) d) S ys) r
+
+pub record Whole (W H : List ℕ) (own at : ℕ) (e e′ : List ℕ) (r : Reached) : Type 0 where
+  pub whole : (w : World H own) (σ : Sort) (ys : List Symbol) → own / 16 % 2 ≡ sort-number σ → Symbols W at ys → Said W at e e′ (nothing-after (read-term (w .functions) (w .arguments) most-depth σ ys)) r
+
+-- A place that was reached lies within n; one after a term lies after `at`.
+unfoldable pub Within : ℕ → ℕ → Reached → Type 0
+Within n at (Next p) = (p ≤ n) × (at ≤ p)
+Within n at (Fault w p) = p ≤ n

@@ -1,0 +1,221 @@
+// Terms over the table of symbols: a term is read by reading its symbol, then as many argument terms as it takes, each symbol judged at its own
+// place; where each term ends goes into a lent table. Each symbol is looked at once. Assumes nothing.
+ghost use mathlib.Core.Path.{_≡_};
+ghost use Prim.Native.Nat.{ℕ, _+_, _*_, _/_, _%_, _^_, _≤_, _<_};
+ghost use lib.ListN.{length, drop};
+ghost use Rattle.terms.specs.Terms.{signed-by, argument-by, function-by, takes-by, Told, Tolds, Whole, Within};
+
+// What is wrong at a symbol.
+pub enum Wrong {
+    UnknownSymbol,
+    LackingArgument,
+    OtherSort,
+    EarlyEnd,
+    LeftOver,
+    TooDeep,
+}
+
+// What a symbol takes: how many arguments and their sorts as a mask; or what is wrong with it.
+pub enum Takes {
+    Args(u32, u32),
+    Cannot(Wrong),
+}
+
+// Where reading has come to: the place after a term, or what is wrong and where.
+pub enum Reached {
+    Next(usize),
+    Fault(Wrong, usize),
+}
+
+// What the symbols take by word, as signatures of functions: 9 numbers, 10 `true` and `false`, 11 to 20 the operations `+` to `!`.
+const OPERATIONS: [u32; 32] = [
+    0,
+    0,
+    0,
+    0,
+    0,
+    0,
+    0,
+    0,
+    0,
+    0,
+    16,
+    2,
+    2,
+    2,
+    2,
+    2,
+    18,
+    18,
+    114,
+    114,
+    49,
+    0,
+    0,
+    0,
+    0,
+    0,
+    0,
+    0,
+    0,
+    0,
+    0,
+    0,
+];
+
+// A symbol that takes and gives what a signature says, where a sort is expected.
+fn signed(sort: u32, h: u32) -> Takes
+    ensures { λ r. ⌜ r ≡ signed-by sort h ⌝ }
+{
+    if h / 16 % 2 == sort {
+        Takes::Args(h % 16, h / 32 % 256)
+    } else {
+        Takes::Cannot(Wrong::OtherSort)
+    }
+}
+
+fn bit_at(m: u32, i: u32) -> u32
+    requires { ⌜ i < 32 ⌝ }
+    ensures { λ r. ⌜ r ≡ m / 2 ^ i % 2 ⌝ }
+{
+    (m >> i) % 2
+}
+
+// An argument of a function that has a signature.
+fn argument(own: u32, sort: u32, i: u32) -> Takes
+    ensures { λ r. ⌜ r ≡ argument-by own sort i ⌝ }
+{
+    if i < own % 16 {
+        if bit_at(own / 32 % 256, i) == sort {
+            return Takes::Args(0, 0);
+        }
+        return Takes::Cannot(Wrong::OtherSort);
+    }
+    Takes::Cannot(Wrong::LackingArgument)
+}
+
+fn function(heads: &[u32], sort: u32, f: usize) -> Takes
+    ensures { λ r. ⌜ r ≡ function-by (now (heads .entry)) sort f ⌝ }
+{
+    if f < heads.len() {
+        return signed(sort, heads[f]);
+    }
+    Takes::Cannot(Wrong::UnknownSymbol)
+}
+
+// What a symbol takes by its word, in a function that has the signature `own`, where a sort is expected.
+fn judge(heads: &[u32], own: u32, sort: u32, w: u32) -> Takes
+    requires { ⌜ sort < 2 ⌝ }
+    ensures { λ r. ⌜ r ≡ takes-by (now (heads .entry)) own sort w ⌝ }
+{
+    if w == 0 {
+        return Takes::Cannot(Wrong::UnknownSymbol);
+    }
+    if w < symbols::NUMBER_WORD {
+        return argument(own, sort, w - 1);
+    }
+    if w == symbols::CONDITION_WORD {
+        return Takes::Args(3, 1 + 6 * sort);
+    }
+    if w < symbols::FIRST_FUNCTION {
+        return signed(sort, OPERATIONS[w as usize]);
+    }
+    function(heads, sort, (w - symbols::FIRST_FUNCTION) as usize)
+}
+
+fn narrow(x: usize) -> u32
+    requires { ⌜ x < 4294967296 ⌝ }
+    ensures { λ r. ⌜ r ≡ x ⌝ }
+{
+    x as u32
+}
+
+// "Reading a term means reading its symbol, then as many argument terms as it takes." Symbols may stand `depth` deep.
+fn read_term(
+    words: &[u32],
+    heads: &[u32],
+    own: u32,
+    at: usize,
+    depth: usize,
+    sort: u32,
+    ends: &mut [u32],
+) -> Reached
+    requires { ⌜ (length (now words) ≤ length (now ends)) × (length (now words) ≤ 2048) × (sort < 2) ⌝ }
+    ensures read { λ r. ⌜ Told (now (words .entry)) (now (heads .entry)) own at depth sort (now (ends .entry)) (now (ends .exit)) r ⌝ }
+    ensures within { λ r. ⌜ Within (length (now (words .entry))) at r ⌝ }
+{
+    if words.len() <= at {
+        return Reached::Fault(Wrong::EarlyEnd, words.len());
+    }
+    if depth == 0 {
+        return Reached::Fault(Wrong::TooDeep, at);
+    }
+    match judge(heads, own, sort, words[at]) {
+        Takes::Cannot(w) => Reached::Fault(w, at),
+        Takes::Args(count, mask) => match read_args(
+            words,
+            heads,
+            own,
+            at + 1,
+            depth - 1,
+            count,
+            mask,
+            ends,
+        ) {
+            Reached::Next(next) => {
+                ends[at] = narrow(next);
+                Reached::Next(next)
+            }
+            Reached::Fault(w, p) => Reached::Fault(w, p),
+        },
+    }
+}
+
+// One term for each of `count` sorts.
+fn read_args(
+    words: &[u32],
+    heads: &[u32],
+    own: u32,
+    at: usize,
+    depth: usize,
+    count: u32,
+    mask: u32,
+    ends: &mut [u32],
+) -> Reached
+    requires { ⌜ (length (now words) ≤ length (now ends)) × (length (now words) ≤ 2048) × (at ≤ length (now words)) ⌝ }
+    ensures read { λ r. ⌜ Tolds (now (words .entry)) (now (heads .entry)) own at depth count mask (now (ends .entry)) (now (ends .exit)) r ⌝ }
+    ensures within { λ r. ⌜ Within (length (now (words .entry))) at r ⌝ }
+{
+    if count == 0 {
+        return Reached::Next(at);
+    }
+    match read_term(words, heads, own, at, depth, mask % 2, ends) {
+        Reached::Next(next) => read_args(words, heads, own, next, depth, count - 1, mask / 2, ends),
+        Reached::Fault(w, p) => Reached::Fault(w, p),
+    }
+}
+
+// A body is one term of its sort and nothing after it: the symbols from `from` on, of a function that has the signature `own`.
+pub fn read_body(words: &[u32], heads: &[u32], own: u32, from: usize, ends: &mut [u32]) -> Reached
+    requires { ⌜ (length (now words) ≤ length (now ends)) × (length (now words) ≤ 2048) ⌝ }
+    ensures read { λ r. ⌜ Whole (now (words .entry)) (now (heads .entry)) own from (now (ends .entry)) (now (ends .exit)) r ⌝ }
+    ensures within { λ r. ⌜ Within (length (now (words .entry))) from r ⌝ }
+{
+    match read_term(
+        words,
+        heads,
+        own,
+        from,
+        meaning::MOST_DEPTH,
+        own / 16 % 2,
+        ends,
+    ) {
+        Reached::Next(next) => {
+            if next < words.len() {
+                return Reached::Fault(Wrong::LeftOver, next);
+            }
+            Reached::Next(next)
+        }
+        Reached::Fault(w, p) => Reached::Fault(w, p),
+    }
+}
