@@ -17,9 +17,9 @@ fn head_of(signature: u32, body: u32) -> Head
     ensures { λ r. ⌜ r ≡ head signature body ⌝ }
 {
     Head {
-        args: signature % 16,
+        args: signature % table::RESULT_UNIT,
         strict: signature / table::STRICT_UNIT,
-        result: signature / 16 % 2,
+        result: signature / table::RESULT_UNIT % 2,
         body,
     }
 }

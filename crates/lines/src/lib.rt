@@ -26,10 +26,10 @@ pub struct Tabs {
 }
 
 // The line past the last that a text may have.
-const OVER_FUNCTIONS: u32 = 65;
+const OVER_FUNCTIONS: u32 = meaning::MOST_FUNCTIONS as u32 + 1;
 
-// The field past a body's first symbols that is one too many: field 5 is the first symbol.
-const OVER_SYMBOLS: usize = 1029;
+// The field of the symbol that is one too many, where none stands above the line: four fields stand before a body.
+const OVER_SYMBOLS: usize = 4 + meaning::MOST_SYMBOLS + 1;
 
 fn narrow(x: usize) -> u32
     requires { ⌜ x < 4294967296 ⌝ }
@@ -250,7 +250,10 @@ fn sign(strict: u8, sorts: &[u8], result: u8) -> u32
     requires { ⌜ (48 ≤ strict) × (strict ≤ 56) × (length (now sorts) ≤ 8) ⌝ }
     ensures { λ r. ⌜ r ≡ signature (map sort-of (now (sorts .entry))) (strict - 48) (sort-of result) ⌝ }
 {
-    narrow(sorts.len()) + 16 * sort_bit(result) + 32 * sorts_mask(sorts) + 8192 * digit_of(strict)
+    narrow(sorts.len())
+        + table::RESULT_UNIT * sort_bit(result)
+        + table::SORTS_UNIT * sorts_mask(sorts)
+        + table::STRICT_UNIT * digit_of(strict)
 }
 
 // The signature of a line of the right shape.

@@ -111,11 +111,11 @@ fn values_fit(sorts: u32, args: &[u32]) -> bool
 fn arguments_fit(signature: u32, args: &[u32]) -> bool
     ensures { λ r. ⌜ r ≡ fits-signature signature (now (args .entry)) ⌝ }
 {
-    let count = (signature % 16) as usize;
+    let count = (signature % table::RESULT_UNIT) as usize;
     if args.len() != count {
         return false;
     }
-    values_fit(signature / 32 % 256, args)
+    values_fit(signature / table::SORTS_UNIT % table::MASKS, args)
 }
 
 fn room() -> Checked
@@ -158,7 +158,8 @@ fn translate_table(
         return c;
     }
     let n = c.instructions as usize;
-    if code.len() / meaning::INSTRUCTION_WORDS < n {
+    let most = code.len() / meaning::INSTRUCTION_WORDS;
+    if most < n {
         return room();
     }
     coding::emit(words, values, ends, heads, n, code);
@@ -203,7 +204,7 @@ fn run_table(
     requires { ⌜ 1 ≤ length (now heads) ⌝ }
     ensures { λ r. ⌜ ((text bodies : List ℕ) → IsRead text c (now (words .entry)) (now (values .entry)) (now (ends .entry)) (now (heads .entry)) bodies → RunOutcome text (now (args .entry)) limit (now (code .entry)) (now (work .entry)) r (now (code .exit)) (now (work .exit))) ⌝ }
 {
-    if c.number != meaning::HALT {
+    if meaning::HALT < c.number {
         return refused(c.number, c.line, c.field);
     }
     if arguments_fit(heads[0], args) {

@@ -17,10 +17,8 @@ ghost use Rattle.lines.specs.Lines.{Right, raw-lines, name-number, line-signatu
 ghost use Rattle.bodies.specs.Bodies.{total};
 ghost use Rattle.reading.specs.Reading.{refusal, acceptance, upto, zeros, after-shape, after-counts, after-names, Outcome, Fit};
 
-// How long the lent arrays of functions and of symbols are at least.
-pub const TABLE_FUNCTIONS: usize = 64;
-
-pub const TABLE_SYMBOLS: usize = 1034;
+// How long the lent arrays of symbols are at least: the initial term has nine symbols at most; one word is to spare, for RET.
+pub const TABLE_SYMBOLS: usize = meaning::MOST_SYMBOLS + meaning::MOST_ARGUMENTS + 2;
 
 fn narrow(x: usize) -> u32
     requires { ⌜ x < 4294967296 ⌝ }
@@ -79,8 +77,8 @@ fn initial(own: u32, words: &mut [u32], values: &mut [u32], ends: &mut [u32]) ->
     ensures values { λ _. ⌜ now (values .exit) ≡ splice (now (values .entry)) 0 (0 ∷ zeros (own % 16)) ⌝ }
     ensures ends { λ _. ⌜ now (ends .exit) ≡ splice (now (ends .entry)) 0 ((own % 16 + 1) ∷ upto (own % 16) 2) ⌝ }
 {
-    let n = (own % 16) as usize;
-    words[0] = symbols::FIRST_FUNCTION;
+    let n = (own % table::RESULT_UNIT) as usize;
+    words[0] = table::FIRST_FUNCTION;
     values[0] = 0;
     ends[0] = narrow(n + 1);
     fill_own(n, words, values, ends);

@@ -8,7 +8,7 @@ use native.Mathlib.Numerals.{add-one, sub-one}
 use lib.Dec.{T, ltb, leb, eqb, eqb→eq}
 use lib.ListN.{length, getD, take, drop, drop-of-length-le, length-map}
 use lib.Seq.{drop-cons}
-use borrow.Author.Tests.{lt-ltb, le-ltb, eq-eqb, ne-eqb, ltb-true, ltb-false, leb-true, leb-false, eqb-true, eqb-false, lt-leb}
+use borrow.Author.Tests.{lt-ltb, le-ltb, eq-eqb, ne-eqb, ltb-true, ltb-false, leb-true, leb-false, eqb-true, eqb-false, le-leb, lt-leb}
 use Rattle.meaning.specs.Basics.{if_then_else_, all, between, bytes}
 use Rattle.meaning.specs.Arithmetic.{Sort, number, yes-no, Op, constant, add, sub, mul, div, rem, eq, lt, and, or, neg, op-constant}
 use Rattle.meaning.specs.Text.{Field, same, value, value-from, is-name, is-capital, is-digit, is-visible}
@@ -18,7 +18,7 @@ use Rattle.fields.specs.Fields.{packed, decimal-of}
 use Rattle.fields.specs.declared.Decimal.{Decimal}
 use Rattle.fields.specs.declared.Decimal.the-variants as decimal
 use Rattle.fields.proofs.Laws.{Bytes, packed-same}
-use Rattle.symbols.specs.Symbols.{shown, shown-op, word-of, value-of, named-as, short-word, one-byte-symbol, decimal-or, some-bytes-symbol, symbol-by}
+use Rattle.symbols.specs.Symbols.{shown, shown-op, word-of, value-of, named-as, short-word, sign-by, low-by, short-by, one-byte-symbol, decimal-or, some-bytes-symbol, symbol-by}
 use Rattle.symbols.specs.declared.Symbol.{Symbol}
 use Rattle.symbols.specs.declared.Symbol.the-variants.{Argument, Number, Truth, Operation, Condition, Function, Unknown}
 use Rattle.symbols.proofs.Every.{first-of, second-of, at}
@@ -153,6 +153,32 @@ bounded b w = leb w 20 && (if eqb w 9 then leb 48 b else true)
 pub table-word : (b : ℕ) → b < 256 → getD table b 0 ≡ short-word b
 unfolding table word-right short-word symbol spelt-in is-decimal value-from all same named symbol-word op-word
 table-word b h = eqb→eq (getD table b 0) (short-word b) (at word-right table tt b h)
+
+by-tests : ℕ → ℕ → Bool
+by-tests b w = eqb (short-by b) w
+
+tests-word : (b : ℕ) → b < 256 → short-by b ≡ getD table b 0
+unfolding table by-tests short-by low-by sign-by
+tests-word b h = eqb→eq (short-by b) (getD table b 0) (at by-tests table tt b h)
+
+pub short-is : (b : ℕ) → b < 256 → short-by b ≡ short-word b
+short-is b h = tests-word b h ∙ table-word b h
+
+pub below-a : (b : ℕ) → b < 97 → low-by b ≡ short-by b
+unfolding short-by
+below-a b h = rw (lt-ltb b 97 h)
+
+pub to-h : (b : ℕ) → 97 ≤ b → b ≤ 104 → b - 97 + 1 ≡ short-by b
+unfolding short-by
+to-h b h k = rw (le-ltb b 97 h, le-leb b 104 k)
+
+pub bar : (b : ℕ) → 97 ≤ b → 104 < b → b ≡ 124 → 19 ≡ short-by b
+unfolding short-by
+bar b h k e = rw (le-ltb b 97 h, lt-leb b 104 k, eq-eqb b 124 e)
+
+pub nothing-else : (b : ℕ) → 97 ≤ b → 104 < b → (b ≡ 124 → ⊥) → 0 ≡ short-by b
+unfolding short-by
+nothing-else b h k e = rw (le-ltb b 97 h, lt-leb b 104 k, ne-eqb b 124 e)
 
 table-value : (b : ℕ) → b < 256 → (if eqb (getD table b 0) 9 then b - 48 else 0) ≡ symbol-value (symbol [] (b ∷ []))
 unfolding table value-right symbol spelt-in is-decimal value-from all same named symbol-value op-constant

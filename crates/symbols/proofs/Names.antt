@@ -14,7 +14,7 @@ use Rattle.meaning.specs.Terms.{Symbol as Means, argument, operation, condition
 use Rattle.table.specs.Table.{symbol-word, op-word}
 use Rattle.fields.specs.Fields.{packed, is-name-byte}
 use Rattle.fields.proofs.Laws.{Bytes, packed-same}
-use Rattle.symbols.specs.Symbols.{Spelt, All-spelt, named-as, short-word, one-byte-symbol, decimal-or, some-bytes-symbol, symbol-by}
+use Rattle.symbols.specs.Symbols.{Named, Spelt, All-spelt, named-as, short-word, one-byte-symbol, decimal-or, some-bytes-symbol, symbol-by}
 
 -- Tests.
 
@@ -173,6 +173,15 @@ unfolding symbol-by
 symbol-is N [] p q = by-length N [] (ltb 8 0) p q (λ e. omega (arith, e)) refl
 symbol-is N (x ∷ []) p q = one-byte-is N x p q
 symbol-is N (x ∷ y ∷ f) p q = rw (ne-eqb (length (x ∷ y ∷ f)) 1 λ e. omega (arith, e)) (by-length N (x ∷ y ∷ f) (ltb 8 (length (x ∷ y ∷ f))) p q (λ e. omega (arith, e)) refl)
+
+named-names : (N : List Field) → Named N → Names N
+unfolding Named Names
+named-names [] p = tt
+named-names (n ∷ N) p = (is-a-name n (p .0), named-names N (p .1))
+
+-- Where the packed names are those of N, a visible field is N's symbol.
+pub symbol-meant : (M : List ℕ) (f : Field) (N : List Field) → Named N → M ≡ map packed N → is-visible f ≡ true → symbol-by M f ≡ symbol N f
+symbol-meant M f N p m v = ap (λ (X : List ℕ). symbol-by X f) m ∙ symbol-is N f (named-names N p) (visible-bytes f v)
 
 -- Words are small.
 

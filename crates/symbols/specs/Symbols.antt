@@ -1,13 +1,14 @@
 -- Symbols as an enum, and by packed names: what each case is of the definition's symbols. Assumes nothing.
+use mathlib.Core.Path.{_≡_}
 use mathlib.Core.Bool.{Bool, true, false}
 use mathlib.Core.List.{List, [], _∷_}
-use Prim.Native.Nat.{ℕ, zero, suc, _+_, _<_}
-use lib.Dec.{ltb, eqb}
+use Prim.Native.Nat.{ℕ, zero, suc, _+_, _-_, _<_}
+use lib.Dec.{ltb, leb, eqb}
 use lib.ListN.{length, getD}
-use Rattle.meaning.specs.Basics.{if_then_else_, bytes}
+use Rattle.meaning.specs.Basics.{if_then_else_, byte, bytes}
 use Rattle.meaning.specs.Arithmetic.{Sort, number, yes-no, Op, constant, add, sub, mul, div, rem, eq, lt, and, or, neg, op-number}
 use Rattle.meaning.specs.Numbers.{most-arguments}
-use Rattle.meaning.specs.Text.{Field, value}
+use Rattle.meaning.specs.Text.{Field, value, is-name}
 use Rattle.meaning.specs.Terms.{Symbol as Means, argument, operation, condition, function, unknown, is-decimal, symbol}
 use Rattle.table.specs.Table.{symbol-word}
 use Rattle.fields.specs.Fields.{packed}
@@ -67,6 +68,11 @@ unfoldable pub All-spelt : List Means → Type 0
 All-spelt [] = Unit {0}
 All-spelt (y ∷ ys) = Spelt y × All-spelt ys
 
+-- Fields that are all names.
+unfoldable pub Named : List Field → Type 0
+Named [] = Unit {0}
+Named (n ∷ N) = (is-name n ≡ true) × Named N
+
 -- By packed names.
 
 -- "function names": the first of the packed names that a packed field is, counted from i.
@@ -77,6 +83,47 @@ named-as i (n ∷ ns) p = if eqb p n then function i else named-as (i + 1) ns p
 -- The word of a byte that is a symbol whatever names there are.
 unfoldable pub short-word : ℕ → ℕ
 short-word b = symbol-word (symbol [] (b ∷ []))
+
+-- The same by tests: signs below '0', bytes below 'a', all bytes.
+unfoldable pub sign-by : ℕ → ℕ
+sign-by b =
+    if eqb b (byte "!")
+    then 20
+    else if eqb b (byte "%")
+    then 15
+    else if eqb b (byte "&")
+    then 18
+    else if eqb b (byte "*")
+    then 13
+    else if eqb b (byte "+")
+    then 11
+    else if eqb b (byte "-")
+    then 12
+    else if eqb b (byte "/")
+    then 14
+    else 0
+
+unfoldable pub low-by : ℕ → ℕ
+low-by b =
+    if ltb b (byte "0")
+    then sign-by b
+    else if leb b (byte "9")
+    then 9
+    else if eqb b (byte "<")
+    then 17
+    else if eqb b (byte "=")
+    then 16
+    else 0
+
+unfoldable pub short-by : ℕ → ℕ
+short-by b =
+    if ltb b (byte "a")
+    then low-by b
+    else if leb b (byte "h")
+    then b - byte "a" + 1
+    else if eqb b (byte "|")
+    then 19
+    else 0
 
 unfoldable pub one-byte-symbol : List ℕ → Field → Means
 one-byte-symbol M f = if eqb (short-word (getD f 0 0)) 0 then named-as 0 M (packed f) else symbol [] (getD f 0 0 ∷ [])

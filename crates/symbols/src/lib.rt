@@ -2,11 +2,14 @@
 // Assumes nothing.
 use fields::Decimal;
 ghost use mathlib.Core.Path.{_≡_};
-ghost use mathlib.Core.List.{List, [], _∷_};
+ghost use mathlib.Core.Bool.{true};
+ghost use mathlib.Core.List.{List, [], _∷_, map};
 ghost use Prim.Native.Nat.{_+_, _≤_, _<_};
 ghost use lib.ListN.{length};
+ghost use Rattle.meaning.specs.Text.{Field, is-visible};
 ghost use Rattle.meaning.specs.Terms.{symbol, unknown};
-ghost use Rattle.symbols.specs.Symbols.{shown, word-of, value-of, short-word, one-byte-symbol, named-as, symbol-by, some-bytes-symbol, decimal-or};
+ghost use Rattle.fields.specs.Fields.{packed};
+ghost use Rattle.symbols.specs.Symbols.{shown, Named, word-of, value-of, short-word, sign-by, low-by, one-byte-symbol, named-as, symbol-by, some-bytes-symbol, decimal-or};
 
 // What a field is: an argument by its place, a number, a yes/no, an operation by its number, `cond`, a function by its line, or no symbol.
 pub enum Symbol {
@@ -19,15 +22,6 @@ pub enum Symbol {
     Unknown,
 }
 
-// The words of the table of symbols.
-pub const NUMBER_WORD: u32 = 9;
-
-pub const TRUTH_WORD: u32 = 10;
-
-pub const CONDITION_WORD: u32 = 21;
-
-pub const FIRST_FUNCTION: u32 = 32;
-
 // `true`, `false` and `cond` as numbers.
 const TRUE: u64 = 1702195828;
 
@@ -35,276 +29,74 @@ const FALSE: u64 = 435728179558;
 
 const COND: u64 = 1684959075;
 
-// The word of the symbol that one byte is, 9 for a digit, 0 where it is none.
-const SHORT: [u32; 256] = [
-    0,
-    0,
-    0,
-    0,
-    0,
-    0,
-    0,
-    0,
-    0,
-    0,
-    0,
-    0,
-    0,
-    0,
-    0,
-    0,
-    0,
-    0,
-    0,
-    0,
-    0,
-    0,
-    0,
-    0,
-    0,
-    0,
-    0,
-    0,
-    0,
-    0,
-    0,
-    0,
-    0,
-    20,
-    0,
-    0,
-    0,
-    15,
-    18,
-    0,
-    0,
-    0,
-    13,
-    11,
-    0,
-    12,
-    0,
-    14,
-    9,
-    9,
-    9,
-    9,
-    9,
-    9,
-    9,
-    9,
-    9,
-    9,
-    0,
-    0,
-    17,
-    16,
-    0,
-    0,
-    0,
-    0,
-    0,
-    0,
-    0,
-    0,
-    0,
-    0,
-    0,
-    0,
-    0,
-    0,
-    0,
-    0,
-    0,
-    0,
-    0,
-    0,
-    0,
-    0,
-    0,
-    0,
-    0,
-    0,
-    0,
-    0,
-    0,
-    0,
-    0,
-    0,
-    0,
-    0,
-    0,
-    1,
-    2,
-    3,
-    4,
-    5,
-    6,
-    7,
-    8,
-    0,
-    0,
-    0,
-    0,
-    0,
-    0,
-    0,
-    0,
-    0,
-    0,
-    0,
-    0,
-    0,
-    0,
-    0,
-    0,
-    0,
-    0,
-    0,
-    19,
-    0,
-    0,
-    0,
-    0,
-    0,
-    0,
-    0,
-    0,
-    0,
-    0,
-    0,
-    0,
-    0,
-    0,
-    0,
-    0,
-    0,
-    0,
-    0,
-    0,
-    0,
-    0,
-    0,
-    0,
-    0,
-    0,
-    0,
-    0,
-    0,
-    0,
-    0,
-    0,
-    0,
-    0,
-    0,
-    0,
-    0,
-    0,
-    0,
-    0,
-    0,
-    0,
-    0,
-    0,
-    0,
-    0,
-    0,
-    0,
-    0,
-    0,
-    0,
-    0,
-    0,
-    0,
-    0,
-    0,
-    0,
-    0,
-    0,
-    0,
-    0,
-    0,
-    0,
-    0,
-    0,
-    0,
-    0,
-    0,
-    0,
-    0,
-    0,
-    0,
-    0,
-    0,
-    0,
-    0,
-    0,
-    0,
-    0,
-    0,
-    0,
-    0,
-    0,
-    0,
-    0,
-    0,
-    0,
-    0,
-    0,
-    0,
-    0,
-    0,
-    0,
-    0,
-    0,
-    0,
-    0,
-    0,
-    0,
-    0,
-    0,
-    0,
-    0,
-    0,
-    0,
-    0,
-    0,
-    0,
-    0,
-    0,
-    0,
-    0,
-    0,
-    0,
-    0,
-    0,
-    0,
-    0,
-    0,
-    0,
-    0,
-    0,
-    0,
-    0,
-    0,
-    0,
-    0,
-    0,
-    0,
-    0,
-    0,
-];
-
 fn wide(b: u8) -> u32
     ensures { λ r. ⌜ r ≡ b ⌝ }
 {
     b as u32
 }
 
+// The words of the signs below '0', 0 where a byte is none. (Tests, and no table: the compiler makes a table of them that stands in the program once,
+// where a constant array or a literal is made anew at each look.)
+fn sign_word(b: u8) -> u32
+    ensures { λ r. ⌜ r ≡ sign-by b ⌝ }
+{
+    if b == b'!' {
+        return 20;
+    }
+    if b == b'%' {
+        return 15;
+    }
+    if b == b'&' {
+        return 18;
+    }
+    if b == b'*' {
+        return 13;
+    }
+    if b == b'+' {
+        return 11;
+    }
+    if b == b'-' {
+        return 12;
+    }
+    if b == b'/' {
+        return 14;
+    }
+    0
+}
+
+// The words of the bytes below 'a': signs and digits.
+fn low_word(b: u8) -> u32
+    ensures { λ r. ⌜ r ≡ low-by b ⌝ }
+{
+    if b < b'0' {
+        return sign_word(b);
+    }
+    if b <= b'9' {
+        return table::FIRST_CONSTANT;
+    }
+    if b == b'<' {
+        return 17;
+    }
+    if b == b'=' {
+        return 16;
+    }
+    0
+}
+
+// The word of the symbol that one byte is, 9 for a digit, 0 where it is none.
 fn word_at(b: u8) -> u32
     ensures { λ r. ⌜ r ≡ short-word b ⌝ }
 {
-    SHORT[b as usize]
+    if b < b'a' {
+        return low_word(b);
+    }
+    if b <= b'h' {
+        return wide(b - b'a') + 1;
+    }
+    if b == b'|' {
+        return 19;
+    }
+    0
 }
 
 // The symbol of one byte that has the word w.
@@ -315,13 +107,13 @@ fn short_of(b: u8, w: u32) -> Symbol
     if w == 0 {
         return Symbol::Unknown;
     }
-    if w < NUMBER_WORD {
+    if w < table::FIRST_CONSTANT {
         return Symbol::Argument(w - 1);
     }
-    if w == NUMBER_WORD {
+    if w == table::FIRST_CONSTANT {
         return Symbol::Number(wide(b - b'0'));
     }
-    Symbol::Operation(w - TRUTH_WORD)
+    Symbol::Operation(w - table::TRUTH)
 }
 
 // The function that has a packed name.
@@ -395,7 +187,8 @@ fn some_bytes(names: &[u64], f: &[u8]) -> Symbol
 // The symbol that a field is, where the functions have the packed names.
 pub fn symbol_of(names: &[u64], f: &[u8]) -> Symbol
     requires { ⌜ length (now names) ≤ 64 ⌝ }
-    ensures { λ r. ⌜ r ≡ shown (symbol-by (now (names .entry)) (now (f .entry))) ⌝ }
+    ensures by { λ r. ⌜ r ≡ shown (symbol-by (now (names .entry)) (now (f .entry))) ⌝ }
+    ensures is { λ r. ⌜ ((N : List Field) → Named N → now (names .entry) ≡ map packed N → is-visible (now (f .entry)) ≡ true → r ≡ shown (symbol N (now (f .entry)))) ⌝ }
 {
     if f.len() == 1 {
         return one_byte(names, f);
@@ -413,11 +206,11 @@ pub fn word(y: Symbol) -> u32
 {
     match y {
         Symbol::Argument(i) => i + 1,
-        Symbol::Number(_) => NUMBER_WORD,
-        Symbol::Truth(_) => TRUTH_WORD,
-        Symbol::Operation(o) => TRUTH_WORD + o,
-        Symbol::Condition => CONDITION_WORD,
-        Symbol::Function(k) => FIRST_FUNCTION + k,
+        Symbol::Number(_) => table::FIRST_CONSTANT,
+        Symbol::Truth(_) => table::TRUTH,
+        Symbol::Operation(o) => table::TRUTH + o,
+        Symbol::Condition => table::COND,
+        Symbol::Function(k) => table::FIRST_FUNCTION + k,
         Symbol::Unknown => 0,
     }
 }

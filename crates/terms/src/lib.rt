@@ -2,8 +2,8 @@
 // place; where each term ends goes into a lent table. Each symbol is looked at once. Assumes nothing.
 ghost use mathlib.Core.Path.{_≡_};
 ghost use Prim.Native.Nat.{ℕ, _+_, _*_, _/_, _%_, _^_, _≤_, _<_};
-ghost use lib.ListN.{length, drop};
-ghost use Rattle.terms.specs.Terms.{signed-by, argument-by, function-by, takes-by, Told, Tolds, Whole, Within};
+ghost use lib.ListN.{length, getD, drop};
+ghost use Rattle.terms.specs.Terms.{signed-by, argument-by, function-by, operations, takes-by, Told, Tolds, Whole, Within};
 
 // What is wrong at a symbol.
 pub enum Wrong {
@@ -27,51 +27,32 @@ pub enum Reached {
     Fault(Wrong, usize),
 }
 
-// What the symbols take by word, as signatures of functions: 9 numbers, 10 `true` and `false`, 11 to 20 the operations `+` to `!`.
-const OPERATIONS: [u32; 32] = [
-    0,
-    0,
-    0,
-    0,
-    0,
-    0,
-    0,
-    0,
-    0,
-    0,
-    16,
-    2,
-    2,
-    2,
-    2,
-    2,
-    18,
-    18,
-    114,
-    114,
-    49,
-    0,
-    0,
-    0,
-    0,
-    0,
-    0,
-    0,
-    0,
-    0,
-    0,
-    0,
-];
-
 // A symbol that takes and gives what a signature says, where a sort is expected.
 fn signed(sort: u32, h: u32) -> Takes
     ensures { λ r. ⌜ r ≡ signed-by sort h ⌝ }
 {
-    if h / 16 % 2 == sort {
-        Takes::Args(h % 16, h / 32 % 256)
+    if h / table::RESULT_UNIT % 2 == sort {
+        Takes::Args(h % table::RESULT_UNIT, h / table::SORTS_UNIT % table::MASKS)
     } else {
         Takes::Cannot(Wrong::OtherSort)
     }
+}
+
+fn wide(b: u8) -> u32
+    ensures { λ r. ⌜ r ≡ b ⌝ }
+{
+    b as u32
+}
+
+// What the symbols take by word, as signatures of functions: 9 numbers, 10 `true` and `false`, 11 to 20 the operations `+` to `!`. (A literal stands in
+// the program once; a constant array would be made anew at each look.)
+fn operation(w: u32) -> u32
+    requires { ⌜ w < 32 ⌝ }
+    ensures { λ r. ⌜ r ≡ getD operations w 0 ⌝ }
+{
+    let signs =
+        b"\x00\x00\x00\x00\x00\x00\x00\x00\x00\x00\x10\x02\x02\x02\x02\x02\x12\x12\x72\x72\x31\x00\x00\x00\x00\x00\x00\x00\x00\x00\x00\x00";
+    wide(signs[w as usize])
 }
 
 fn bit_at(m: u32, i: u32) -> u32
@@ -85,8 +66,8 @@ fn bit_at(m: u32, i: u32) -> u32
 fn argument(own: u32, sort: u32, i: u32) -> Takes
     ensures { λ r. ⌜ r ≡ argument-by own sort i ⌝ }
 {
-    if i < own % 16 {
-        if bit_at(own / 32 % 256, i) == sort {
+    if i < own % table::RESULT_UNIT {
+        if bit_at(own / table::SORTS_UNIT % table::MASKS, i) == sort {
             return Takes::Args(0, 0);
         }
         return Takes::Cannot(Wrong::OtherSort);
@@ -111,16 +92,16 @@ fn judge(heads: &[u32], own: u32, sort: u32, w: u32) -> Takes
     if w == 0 {
         return Takes::Cannot(Wrong::UnknownSymbol);
     }
-    if w < symbols::NUMBER_WORD {
+    if w < table::FIRST_CONSTANT {
         return argument(own, sort, w - 1);
     }
-    if w == symbols::CONDITION_WORD {
+    if w == table::COND {
         return Takes::Args(3, 1 + 6 * sort);
     }
-    if w < symbols::FIRST_FUNCTION {
-        return signed(sort, OPERATIONS[w as usize]);
+    if w < table::FIRST_FUNCTION {
+        return signed(sort, operation(w));
     }
-    function(heads, sort, (w - symbols::FIRST_FUNCTION) as usize)
+    function(heads, sort, (w - table::FIRST_FUNCTION) as usize)
 }
 
 fn narrow(x: usize) -> u32
@@ -152,22 +133,19 @@ fn read_term(
     }
     match judge(heads, own, sort, words[at]) {
         Takes::Cannot(w) => Reached::Fault(w, at),
-        Takes::Args(count, mask) => match read_args(
-            words,
-            heads,
-            own,
-            at + 1,
-            depth - 1,
-            count,
-            mask,
-            ends,
-        ) {
-            Reached::Next(next) => {
-                ends[at] = narrow(next);
-                Reached::Next(next)
+        Takes::Args(count, mask) => {
+            if count == 0 {
+                ends[at] = narrow(at + 1);
+                return Reached::Next(at + 1);
             }
-            Reached::Fault(w, p) => Reached::Fault(w, p),
-        },
+            match read_args(words, heads, own, at + 1, depth - 1, count, mask, ends) {
+                Reached::Next(next) => {
+                    ends[at] = narrow(next);
+                    Reached::Next(next)
+                }
+                Reached::Fault(w, p) => Reached::Fault(w, p),
+            }
+        }
     }
 }
 
@@ -207,7 +185,7 @@ pub fn read_body(words: &[u32], heads: &[u32], own: u32, from: usize, ends: &mut
         own,
         from,
         meaning::MOST_DEPTH,
-        own / 16 % 2,
+        own / table::RESULT_UNIT % 2,
         ends,
     ) {
         Reached::Next(next) => {

@@ -1,6 +1,6 @@
 -- `terms::read_args` and `terms::read_term` meet their contracts. Assumes nothing.
 use native.Mathlib.Omega.{arith}
-use mathlib.Core.Path.{sym, _∙_}
+use mathlib.Core.Path.{refl, sym, _∙_}
 use Rattle.terms.specs.Terms.{Within}
 use Rattle.terms.proofs.Laws as laws
 use borrow.Author.Needs.{needs}
@@ -125,10 +125,10 @@ read-args-returns-3 t c = (laws.args-fault (c .before .before .before .before .b
 read-term-returns : (t : ℕ) → read-term-lts.Need-returns (
   judge-reads.Asked,
   judge-reads.Learnt,
-  read-args-below t,
-  read-args.Post,
   narrow-reads.Asked,
   narrow-reads.Learnt,
+  read-args-below t,
+  read-args.Post,
 ) (read-term-at t) read-term.Post
 unfolding Within
 read-term-returns t c = (laws.term-none _ _ _ _ _ _ _ _ (c .if1 .taken), omega arith)
@@ -136,10 +136,10 @@ read-term-returns t c = (laws.term-none _ _ _ _ _ _ _ _ (c .if1 .taken), omega a
 read-term-returns-2 : (t : ℕ) → read-term-lts.Need-returns-2 (
   judge-reads.Asked,
   judge-reads.Learnt,
-  read-args-below t,
-  read-args.Post,
   narrow-reads.Asked,
   narrow-reads.Learnt,
+  read-args-below t,
+  read-args.Post,
 ) (read-term-at t) read-term.Post
 unfolding Within
 read-term-returns-2 t c = (laws.term-deep _ _ _ _ _ _ _ _ (c .before .if1 .left) (c .if2 .taken), omega arith)
@@ -147,185 +147,256 @@ read-term-returns-2 t c = (laws.term-deep _ _ _ _ _ _ _ _ (c .before .if1 .left)
 read-term-mul-judge : (t : ℕ) → read-term-lts.Need-mul-judge (
   judge-reads.Asked,
   judge-reads.Learnt,
-  read-args-below t,
-  read-args.Post,
   narrow-reads.Asked,
   narrow-reads.Learnt,
+  read-args-below t,
+  read-args.Post,
 ) (read-term-at t) read-term.Post
 read-term-mul-judge t c = search needs
 
 read-term-shared-slice-read-judge : (t : ℕ) → read-term-lts.Need-shared-slice-read-judge (
   judge-reads.Asked,
   judge-reads.Learnt,
-  read-args-below t,
-  read-args.Post,
   narrow-reads.Asked,
   narrow-reads.Learnt,
+  read-args-below t,
+  read-args.Post,
 ) (read-term-at t) read-term.Post
 read-term-shared-slice-read-judge t c = search needs
 
 read-term-judge-requires : (t : ℕ) → read-term-lts.Need-judge-requires (
   judge-reads.Asked,
   judge-reads.Learnt,
-  read-args-below t,
-  read-args.Post,
   narrow-reads.Asked,
   narrow-reads.Learnt,
+  read-args-below t,
+  read-args.Post,
 ) (read-term-at t) read-term.Post
 read-term-judge-requires t c κs = search needs
 
 read-term-enum-known-w : (t : ℕ) → read-term-lts.Need-enum-known-w (
   judge-reads.Asked,
   judge-reads.Learnt,
-  read-args-below t,
-  read-args.Post,
   narrow-reads.Asked,
   narrow-reads.Learnt,
+  read-args-below t,
+  read-args.Post,
 ) (read-term-at t) read-term.Post
 read-term-enum-known-w t c = search needs
 
 read-term-enum-known-count : (t : ℕ) → read-term-lts.Need-enum-known-count (
   judge-reads.Asked,
   judge-reads.Learnt,
-  read-args-below t,
-  read-args.Post,
   narrow-reads.Asked,
   narrow-reads.Learnt,
+  read-args-below t,
+  read-args.Post,
 ) (read-term-at t) read-term.Post
 read-term-enum-known-count t c = search needs
 
-read-term-add-read-args : (t : ℕ) → read-term-lts.Need-add-read-args (
+read-term-add-narrow : (t : ℕ) → read-term-lts.Need-add-narrow (
   judge-reads.Asked,
   judge-reads.Learnt,
-  read-args-below t,
-  read-args.Post,
   narrow-reads.Asked,
   narrow-reads.Learnt,
-) (read-term-at t) read-term.Post
-read-term-add-read-args t c = search needs
-
-read-term-sub-read-args : (t : ℕ) → read-term-lts.Need-sub-read-args (
-  judge-reads.Asked,
-  judge-reads.Learnt,
   read-args-below t,
   read-args.Post,
-  narrow-reads.Asked,
-  narrow-reads.Learnt,
 ) (read-term-at t) read-term.Post
-read-term-sub-read-args t c = search needs
-
-read-term-read-args-requires : (t : ℕ) → read-term-lts.Need-read-args-requires (
-  judge-reads.Asked,
-  judge-reads.Learnt,
-  read-args-below t,
-  read-args.Post,
-  narrow-reads.Asked,
-  narrow-reads.Learnt,
-) (read-term-at t) read-term.Post
-read-term-read-args-requires t c κs = (omega (arith, laws.few _ _ _ _ _ _ _ (c .before .before .before .before .judge .ensures) (c .before .before .count .given .1)), (omega arith, omega arith, omega arith))
-
-read-term-enum-known-next : (t : ℕ) → read-term-lts.Need-enum-known-next (
-  judge-reads.Asked,
-  judge-reads.Learnt,
-  read-args-below t,
-  read-args.Post,
-  narrow-reads.Asked,
-  narrow-reads.Learnt,
-) (read-term-at t) read-term.Post
-read-term-enum-known-next t c = search needs
+read-term-add-narrow t c = search needs
 
 read-term-narrow-requires : (t : ℕ) → read-term-lts.Need-narrow-requires (
   judge-reads.Asked,
   judge-reads.Learnt,
-  read-args-below t,
-  read-args.Post,
   narrow-reads.Asked,
   narrow-reads.Learnt,
+  read-args-below t,
+  read-args.Post,
 ) (read-term-at t) read-term.Post
-read-term-narrow-requires t c κs = omega (arith, laws.within-next _ _ _ _ (c .before .before .before .before .before .read-args .ensures .1) (c .before .next .given .1) .0)
+read-term-narrow-requires t c κs = search needs
 
 read-term-mul-ends : (t : ℕ) → read-term-lts.Need-mul-ends (
   judge-reads.Asked,
   judge-reads.Learnt,
-  read-args-below t,
-  read-args.Post,
   narrow-reads.Asked,
   narrow-reads.Learnt,
+  read-args-below t,
+  read-args.Post,
 ) (read-term-at t) read-term.Post
 read-term-mul-ends t c = search needs
 
 read-term-slice-write-ends : (t : ℕ) → read-term-lts.Need-slice-write-ends (
   judge-reads.Asked,
   judge-reads.Learnt,
-  read-args-below t,
-  read-args.Post,
   narrow-reads.Asked,
   narrow-reads.Learnt,
+  read-args-below t,
+  read-args.Post,
 ) (read-term-at t) read-term.Post
 read-term-slice-write-ends t c = search needs
 
-read-term-enum-known-w-2 : (t : ℕ) → read-term-lts.Need-enum-known-w-2 (
+read-term-add-t25 : (t : ℕ) → read-term-lts.Need-add-t25 (
   judge-reads.Asked,
   judge-reads.Learnt,
-  read-args-below t,
-  read-args.Post,
   narrow-reads.Asked,
   narrow-reads.Learnt,
-) (read-term-at t) read-term.Post
-read-term-enum-known-w-2 t c = search needs
-
-read-term-returns-3 : (t : ℕ) → read-term-lts.Need-returns-3 (
-  judge-reads.Asked,
-  judge-reads.Learnt,
   read-args-below t,
   read-args.Post,
-  narrow-reads.Asked,
-  narrow-reads.Learnt,
 ) (read-term-at t) read-term.Post
-unfolding Within
-read-term-returns-3 t c = (laws.term-bad (c .before .before .before .before .before .before .before .before .before .before .args .words .now) (c .before .before .before .before .before .before .before .before .before .before .args .heads .now) (c .before .before .before .before .before .before .before .before .before .before .args .own) _ _ _ _ _ _ (c .before .before .before .before .before .before .if1 .left) (c .before .before .before .before .before .if2 .left) (sym (c .before .before .before .judge .ensures) ∙ c .before .w .given .1), omega arith)
+read-term-add-t25 t c = search needs
 
 read-term-same-length : (t : ℕ) → read-term-lts.Need-same-length (
   judge-reads.Asked,
   judge-reads.Learnt,
-  read-args-below t,
-  read-args.Post,
   narrow-reads.Asked,
   narrow-reads.Learnt,
+  read-args-below t,
+  read-args.Post,
 ) (read-term-at t) read-term.Post
 read-term-same-length t c = search needs
+
+read-term-returns-3 : (t : ℕ) → read-term-lts.Need-returns-3 (
+  judge-reads.Asked,
+  judge-reads.Learnt,
+  narrow-reads.Asked,
+  narrow-reads.Learnt,
+  read-args-below t,
+  read-args.Post,
+) (read-term-at t) read-term.Post
+unfolding Within
+read-term-returns-3 t c = (laws.term-got (c .before .before .before .before .before .before .before .before .before .before .before .before .args .words .now) (c .before .before .before .before .before .before .before .before .before .before .before .before .args .heads .now) (c .before .before .before .before .before .before .before .before .before .before .before .before .args .own) (c .before .before .before .before .before .before .before .before .before .before .before .before .args .at) (c .before .before .before .before .before .before .before .before .before .before .before .before .args .depth) (c .before .before .before .before .before .before .before .before .before .before .before .before .args .sort) _ _ _ _ (c .before .before .before .before .before .before .before .before .before .before .before .before .args .ends .now) _ _ (c .narrow .ensures) (c .before .before .before .before .before .before .before .before .if1 .left) (omega arith) (c .before .before .before .before .before .before .before .if2 .left) (sym (c .before .before .before .before .before .judge .ensures) ∙ c .before .before .before .count .given .1) (laws.args-none (c .before .before .before .before .before .before .before .before .before .before .before .before .args .words .now) (c .before .before .before .before .before .before .before .before .before .before .before .before .args .heads .now) (c .before .before .before .before .before .before .before .before .before .before .before .before .args .own) (c .before .before .before .before .before .before .before .before .before .before .before .before .args .at + 1) (c .before .before .before .before .before .before .before .before .before .before .before .before .args .depth - 1) _ _ (c .before .before .before .before .before .before .before .before .before .before .before .before .args .ends .now) (c .before .if3 .taken)) refl, (omega arith, omega arith))
+
+read-term-add-read-args : (t : ℕ) → read-term-lts.Need-add-read-args (
+  judge-reads.Asked,
+  judge-reads.Learnt,
+  narrow-reads.Asked,
+  narrow-reads.Learnt,
+  read-args-below t,
+  read-args.Post,
+) (read-term-at t) read-term.Post
+read-term-add-read-args t c = search needs
+
+read-term-sub-read-args : (t : ℕ) → read-term-lts.Need-sub-read-args (
+  judge-reads.Asked,
+  judge-reads.Learnt,
+  narrow-reads.Asked,
+  narrow-reads.Learnt,
+  read-args-below t,
+  read-args.Post,
+) (read-term-at t) read-term.Post
+read-term-sub-read-args t c = search needs
+
+read-term-read-args-requires : (t : ℕ) → read-term-lts.Need-read-args-requires (
+  judge-reads.Asked,
+  judge-reads.Learnt,
+  narrow-reads.Asked,
+  narrow-reads.Learnt,
+  read-args-below t,
+  read-args.Post,
+) (read-term-at t) read-term.Post
+read-term-read-args-requires t c κs = (omega (arith, laws.few _ _ _ _ _ _ _ (c .before .before .before .before .before .judge .ensures) (c .before .before .before .count .given .1)), (omega arith, omega arith, omega arith))
+
+read-term-enum-known-next : (t : ℕ) → read-term-lts.Need-enum-known-next (
+  judge-reads.Asked,
+  judge-reads.Learnt,
+  narrow-reads.Asked,
+  narrow-reads.Learnt,
+  read-args-below t,
+  read-args.Post,
+) (read-term-at t) read-term.Post
+read-term-enum-known-next t c = search needs
+
+read-term-narrow-requires-2 : (t : ℕ) → read-term-lts.Need-narrow-requires-2 (
+  judge-reads.Asked,
+  judge-reads.Learnt,
+  narrow-reads.Asked,
+  narrow-reads.Learnt,
+  read-args-below t,
+  read-args.Post,
+) (read-term-at t) read-term.Post
+read-term-narrow-requires-2 t c κs = omega (arith, laws.within-next _ _ _ _ (c .before .before .before .before .before .read-args .ensures .1) (c .before .next .given .1) .0)
+
+read-term-mul-ends-2 : (t : ℕ) → read-term-lts.Need-mul-ends-2 (
+  judge-reads.Asked,
+  judge-reads.Learnt,
+  narrow-reads.Asked,
+  narrow-reads.Learnt,
+  read-args-below t,
+  read-args.Post,
+) (read-term-at t) read-term.Post
+read-term-mul-ends-2 t c = search needs
+
+read-term-slice-write-ends-2 : (t : ℕ) → read-term-lts.Need-slice-write-ends-2 (
+  judge-reads.Asked,
+  judge-reads.Learnt,
+  narrow-reads.Asked,
+  narrow-reads.Learnt,
+  read-args-below t,
+  read-args.Post,
+) (read-term-at t) read-term.Post
+read-term-slice-write-ends-2 t c = search needs
+
+read-term-enum-known-w-2 : (t : ℕ) → read-term-lts.Need-enum-known-w-2 (
+  judge-reads.Asked,
+  judge-reads.Learnt,
+  narrow-reads.Asked,
+  narrow-reads.Learnt,
+  read-args-below t,
+  read-args.Post,
+) (read-term-at t) read-term.Post
+read-term-enum-known-w-2 t c = search needs
 
 read-term-returns-4 : (t : ℕ) → read-term-lts.Need-returns-4 (
   judge-reads.Asked,
   judge-reads.Learnt,
-  read-args-below t,
-  read-args.Post,
   narrow-reads.Asked,
   narrow-reads.Learnt,
+  read-args-below t,
+  read-args.Post,
 ) (read-term-at t) read-term.Post
 unfolding Within
-read-term-returns-4 t c = (laws.term-got (c .before .before .before .before .before .before .before .before .before .before .before .before .before .before .before .before .before .before .args .words .now) (c .before .before .before .before .before .before .before .before .before .before .before .before .before .before .before .before .before .before .args .heads .now) (c .before .before .before .before .before .before .before .before .before .before .before .before .before .before .before .before .before .before .args .own) (c .before .before .before .before .before .before .before .before .before .before .before .before .before .before .before .before .before .before .args .at) (c .before .before .before .before .before .before .before .before .before .before .before .before .before .before .before .before .before .before .args .depth) (c .before .before .before .before .before .before .before .before .before .before .before .before .before .before .before .before .before .before .args .sort) _ _ _ _ (c .before .before .before .before .before .before .before .before .before .before .before .before .before .before .before .before .before .before .args .ends .now) _ _ (c .narrow .ensures) (c .before .before .before .before .before .before .before .before .before .before .before .before .before .before .if1 .left) (omega arith) (c .before .before .before .before .before .before .before .before .before .before .before .before .before .if2 .left) (sym (c .before .before .before .before .before .before .before .before .before .before .before .judge .ensures) ∙ c .before .before .before .before .before .before .before .before .before .count .given .1) (c .before .before .before .before .before .before .read-args .ensures .0) (c .before .before .next .given .1), (laws.within-next _ _ _ _ (c .before .before .before .before .before .before .read-args .ensures .1) (c .before .before .next .given .1) .0, omega (arith, laws.within-next _ _ _ _ (c .before .before .before .before .before .before .read-args .ensures .1) (c .before .before .next .given .1) .1)))
+read-term-returns-4 t c = (laws.term-bad (c .before .before .before .before .before .before .before .before .before .before .args .words .now) (c .before .before .before .before .before .before .before .before .before .before .args .heads .now) (c .before .before .before .before .before .before .before .before .before .before .args .own) _ _ _ _ _ _ (c .before .before .before .before .before .before .if1 .left) (c .before .before .before .before .before .if2 .left) (sym (c .before .before .before .judge .ensures) ∙ c .before .w .given .1), omega arith)
 
 read-term-same-length-2 : (t : ℕ) → read-term-lts.Need-same-length-2 (
   judge-reads.Asked,
   judge-reads.Learnt,
-  read-args-below t,
-  read-args.Post,
   narrow-reads.Asked,
   narrow-reads.Learnt,
+  read-args-below t,
+  read-args.Post,
 ) (read-term-at t) read-term.Post
 read-term-same-length-2 t c = search needs
 
 read-term-returns-5 : (t : ℕ) → read-term-lts.Need-returns-5 (
   judge-reads.Asked,
   judge-reads.Learnt,
-  read-args-below t,
-  read-args.Post,
   narrow-reads.Asked,
   narrow-reads.Learnt,
+  read-args-below t,
+  read-args.Post,
 ) (read-term-at t) read-term.Post
 unfolding Within
-read-term-returns-5 t c = (laws.term-fault (c .before .before .before .before .before .before .before .before .before .before .before .before .before .before .before .before .before .args .words .now) (c .before .before .before .before .before .before .before .before .before .before .before .before .before .before .before .before .before .args .heads .now) (c .before .before .before .before .before .before .before .before .before .before .before .before .before .before .before .before .before .args .own) (c .before .before .before .before .before .before .before .before .before .before .before .before .before .before .before .before .before .args .at) (c .before .before .before .before .before .before .before .before .before .before .before .before .before .before .before .before .before .args .depth) (c .before .before .before .before .before .before .before .before .before .before .before .before .before .before .before .before .before .args .sort) _ _ _ _ (c .before .before .before .before .before .before .before .before .before .before .before .before .before .before .before .before .before .args .ends .now) _ _ (c .before .before .before .before .before .before .before .before .before .before .before .before .before .if1 .left) (c .before .before .before .before .before .before .before .before .before .before .before .before .if2 .left) (sym (c .before .before .before .before .before .before .before .before .before .before .judge .ensures) ∙ c .before .before .before .before .before .before .before .before .count .given .1) (c .before .before .before .before .before .read-args .ensures .0) (c .before .w2 .given .1), laws.within-fault _ _ _ _ _ (c .before .before .before .before .before .read-args .ensures .1) (c .before .w2 .given .1))
+read-term-returns-5 t c = (laws.term-got (c .before .before .before .before .before .before .before .before .before .before .before .before .before .before .before .before .before .before .before .args .words .now) (c .before .before .before .before .before .before .before .before .before .before .before .before .before .before .before .before .before .before .before .args .heads .now) (c .before .before .before .before .before .before .before .before .before .before .before .before .before .before .before .before .before .before .before .args .own) (c .before .before .before .before .before .before .before .before .before .before .before .before .before .before .before .before .before .before .before .args .at) (c .before .before .before .before .before .before .before .before .before .before .before .before .before .before .before .before .before .before .before .args .depth) (c .before .before .before .before .before .before .before .before .before .before .before .before .before .before .before .before .before .before .before .args .sort) _ _ _ _ (c .before .before .before .before .before .before .before .before .before .before .before .before .before .before .before .before .before .before .before .args .ends .now) _ _ (c .narrow2 .ensures) (c .before .before .before .before .before .before .before .before .before .before .before .before .before .before .before .if1 .left) (omega arith) (c .before .before .before .before .before .before .before .before .before .before .before .before .before .before .if2 .left) (sym (c .before .before .before .before .before .before .before .before .before .before .before .before .judge .ensures) ∙ c .before .before .before .before .before .before .before .before .before .before .count .given .1) (c .before .before .before .before .before .before .read-args .ensures .0) (c .before .before .next .given .1), (laws.within-next _ _ _ _ (c .before .before .before .before .before .before .read-args .ensures .1) (c .before .before .next .given .1) .0, omega (arith, laws.within-next _ _ _ _ (c .before .before .before .before .before .before .read-args .ensures .1) (c .before .before .next .given .1) .1)))
+
+read-term-same-length-3 : (t : ℕ) → read-term-lts.Need-same-length-3 (
+  judge-reads.Asked,
+  judge-reads.Learnt,
+  narrow-reads.Asked,
+  narrow-reads.Learnt,
+  read-args-below t,
+  read-args.Post,
+) (read-term-at t) read-term.Post
+read-term-same-length-3 t c = search needs
+
+read-term-returns-6 : (t : ℕ) → read-term-lts.Need-returns-6 (
+  judge-reads.Asked,
+  judge-reads.Learnt,
+  narrow-reads.Asked,
+  narrow-reads.Learnt,
+  read-args-below t,
+  read-args.Post,
+) (read-term-at t) read-term.Post
+unfolding Within
+read-term-returns-6 t c = (laws.term-fault (c .before .before .before .before .before .before .before .before .before .before .before .before .before .before .before .before .before .before .args .words .now) (c .before .before .before .before .before .before .before .before .before .before .before .before .before .before .before .before .before .before .args .heads .now) (c .before .before .before .before .before .before .before .before .before .before .before .before .before .before .before .before .before .before .args .own) (c .before .before .before .before .before .before .before .before .before .before .before .before .before .before .before .before .before .before .args .at) (c .before .before .before .before .before .before .before .before .before .before .before .before .before .before .before .before .before .before .args .depth) (c .before .before .before .before .before .before .before .before .before .before .before .before .before .before .before .before .before .before .args .sort) _ _ _ _ (c .before .before .before .before .before .before .before .before .before .before .before .before .before .before .before .before .before .before .args .ends .now) _ _ (c .before .before .before .before .before .before .before .before .before .before .before .before .before .before .if1 .left) (c .before .before .before .before .before .before .before .before .before .before .before .before .before .if2 .left) (sym (c .before .before .before .before .before .before .before .before .before .before .before .judge .ensures) ∙ c .before .before .before .before .before .before .before .before .before .count .given .1) (c .before .before .before .before .before .read-args .ensures .0) (c .before .w2 .given .1), laws.within-fault _ _ _ _ _ (c .before .before .before .before .before .read-args .ensures .1) (c .before .w2 .given .1))
 
 pub +read-args+read-term-spec : {M : Type 1} → statement M
 +read-args+read-term-spec = close μ-read-args μ-read-term (λ t. read-args-lts.spec (
@@ -349,10 +420,10 @@ pub +read-args+read-term-spec : {M : Type 1} → statement M
     λ t. read-term-lts.spec (
       judge-reads.Asked,
       judge-reads.Learnt,
-      read-args-below t,
-      read-args.Post,
       narrow-reads.Asked,
       narrow-reads.Learnt,
+      read-args-below t,
+      read-args.Post,
     )
     (read-term-at t)
     read-term.Post
@@ -363,16 +434,23 @@ pub +read-args+read-term-spec : {M : Type 1} → statement M
     (read-term-judge-requires t)
     (read-term-enum-known-w t)
     (read-term-enum-known-count t)
+    (read-term-add-narrow t)
+    (read-term-narrow-requires t)
+    (read-term-mul-ends t)
+    (read-term-slice-write-ends t)
+    (read-term-add-t25 t)
+    (read-term-same-length t)
+    (read-term-returns-3 t)
     (read-term-add-read-args t)
     (read-term-sub-read-args t)
     (read-term-read-args-requires t)
     (read-term-enum-known-next t)
-    (read-term-narrow-requires t)
-    (read-term-mul-ends t)
-    (read-term-slice-write-ends t)
+    (read-term-narrow-requires-2 t)
+    (read-term-mul-ends-2 t)
+    (read-term-slice-write-ends-2 t)
     (read-term-enum-known-w-2 t)
-    (read-term-returns-3 t)
-    (read-term-same-length t)
     (read-term-returns-4 t)
     (read-term-same-length-2 t)
     (read-term-returns-5 t)
+    (read-term-same-length-3 t)
+    (read-term-returns-6 t)

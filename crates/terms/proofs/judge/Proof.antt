@@ -1,6 +1,7 @@
 -- `terms::judge` meets its contract. Assumes nothing.
 use borrow.Author.Tests.{lt-ltb, le-ltb, eq-eqb, ne-eqb}
-use Rattle.terms.specs.Terms.{operations, takes-by}
+use mathlib.Core.Path.{ap, _∙_}
+use Rattle.terms.specs.Terms.{signed-by, takes-by}
 use borrow.Author.Needs.{needs}
 use Rattle.terms.proofs.judge.Statement.{statement}
 use Rattle.terms.proofs.judge.Tie as tie
@@ -29,18 +30,15 @@ returns-3 : tie.Need-returns-3
 unfolding takes-by
 returns-3 c = simp (ne-eqb _ _ (c .before .before .if1 .left), le-ltb _ _ (c .before .if2 .left), eq-eqb _ _ (c .if3 .taken))
 
-mul-signed : tie.Need-mul-signed
-mul-signed c = search needs
-
-array-read-signed : tie.Need-array-read-signed
-array-read-signed c = search needs
+operation-requires : tie.Need-operation-requires
+operation-requires c κs = search needs
 
 signed-requires : tie.Need-signed-requires
 signed-requires c κs = search needs
 
 returns-4 : tie.Need-returns-4
-unfolding takes-by operations
-returns-4 c = simp (ne-eqb _ _ (c .before .before .before .before .if1 .left), le-ltb _ _ (c .before .before .before .if2 .left), ne-eqb _ _ (c .before .before .if3 .left), lt-ltb _ _ (c .before .if4 .taken)) (c .signed .ensures)
+unfolding takes-by
+returns-4 c = simp (ne-eqb _ _ (c .before .before .before .before .before .if1 .left), le-ltb _ _ (c .before .before .before .before .if2 .left), ne-eqb _ _ (c .before .before .before .if3 .left), lt-ltb _ _ (c .before .before .if4 .taken)) (c .signed .ensures ∙ ap (signed-by (c .before .before .before .before .before .before .before .args .sort)) (c .before .operation .ensures))
 
 cast-function : tie.Need-cast-function
 cast-function c = search needs
@@ -63,8 +61,7 @@ judge-spec =
     mul-t8
     add-t9
     returns-3
-    mul-signed
-    array-read-signed
+    operation-requires
     signed-requires
     returns-4
     cast-function
