@@ -13,6 +13,7 @@ use borrow.Author.Tests.{lt-ltb, le-ltb, eq-eqb, ne-eqb, le-leb, lt-leb, leb-tru
 use Rattle.meaning.specs.Basics.{if_then_else_, between, all, byte}
 use Rattle.meaning.specs.Text.{Field, pieces, onto-first, is-visible, is-name, is-count, are-sorts, is-result, is-sort, is-digit, is-capital, value, value-from, same}
 use Rattle.meaning.specs.Terms.{is-decimal}
+use Rattle.reader.proofs.Laws.{span-within}
 use Rattle.fields.specs.Fields.{span, rest, visible-span, occurrences, is-name-byte, count-of, decimal-of, digits-from, packed}
 use Rattle.fields.specs.declared.Strict.{Strict}
 use Rattle.fields.specs.declared.Strict.the-variants as strict
@@ -39,15 +40,6 @@ unfolding pieces span rest
 first-piece b [] = refl
 first-piece b (x ∷ xs) = pieces-by b x xs (eqb x b) (first-piece b xs)
 
-span-by : (n m : ℕ) (t : Bool) → n ≤ m → (if t then 0 else suc n) ≤ suc m
-span-by n m true h = omega arith
-span-by n m false h = omega arith
-
-pub span-within : (b : ℕ) (s : List ℕ) → span b s ≤ length s
-unfolding span
-span-within b [] = omega arith
-span-within b (x ∷ xs) = span-by (span b xs) (length xs) (eqb x b) (span-within b xs)
-
 -- The piece after the byte at `at`, which is a byte b.
 pub next-piece : (b : ℕ) (l : List ℕ) (at a e : ℕ) → at < length l → a ≡ at + 1 → e ≡ a + span b (drop a l) →
     rest b (drop at l) ≡ take (e - a) (drop a l) ∷ rest b (drop e l)
@@ -60,18 +52,6 @@ next-piece b l at a e h p q =
 pub no-piece : (b : ℕ) (l : List ℕ) (at : ℕ) → length l ≤ at → rest b (drop at l) ≡ []
 unfolding rest
 no-piece b l at h = rw (drop-of-length-le l h)
-
-pub span-end : (b : ℕ) (s : List ℕ) (i : ℕ) → length s ≤ i → i + span b (drop i s) ≡ i
-unfolding span
-span-end b s i h = rw (drop-of-length-le s h) (omega arith)
-
-pub span-here : (b : ℕ) (s : List ℕ) (i : ℕ) → i < length s → getD s i 0 ≡ b → i + span b (drop i s) ≡ i
-unfolding span
-span-here b s i h e = rw (drop-cons s i 0, eq-eqb _ _ e) (omega arith)
-
-pub span-on : (b : ℕ) (s : List ℕ) (i : ℕ) → i < length s → (getD s i 0 ≡ b → ⊥) → (i + 1) + span b (drop (i + 1) s) ≡ i + span b (drop i s)
-unfolding span
-span-on b s i h e = rw (drop-cons s i 0, ne-eqb _ _ e, add-one) (omega arith)
 
 -- Visible bytes, and the field that they begin.
 pub visible-stop : (s : List ℕ) (i : ℕ) → length s ≤ i → i + visible-span (drop i s) ≡ i

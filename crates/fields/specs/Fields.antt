@@ -11,12 +11,10 @@ use Rattle.fields.specs.declared.Strict.{Strict}
 use Rattle.fields.specs.declared.Strict.the-variants as strict
 use Rattle.fields.specs.declared.Decimal.{Decimal}
 use Rattle.fields.specs.declared.Decimal.the-variants as decimal
+-- Where a piece ends: the reader's, passed on.
+unfoldable pub use Rattle.reader.specs.Span.{span}
 
--- How many bytes stand before the first byte b, and the pieces after it: none where there is no byte b.
-unfoldable pub span : ℕ → List ℕ → ℕ
-span b [] = 0
-span b (x ∷ xs) = if eqb x b then 0 else suc (span b xs)
-
+-- The pieces after the first byte b: none where there is no byte b.
 unfoldable pub rest : ℕ → List ℕ → List Field
 rest b [] = []
 rest b (x ∷ xs) = pieces b xs

@@ -1,5 +1,6 @@
 // Fields of a text: where they end, what forms they have, decimals, names as numbers. Each field is looked at where it stands; nothing is copied out
-// of the text. Every reader of fields goes through `piece_end`. Each function looks at a byte once. Assumes nothing.
+// of the text. Every line and field that is cut out of a text ends where `piece_end` says, which goes through the reader of fields (`reader::field`).
+// Each function looks at a byte once. Assumes nothing.
 ghost use mathlib.Core.Path.{_≡_};
 ghost use Prim.Native.Nat.{ℕ, _+_, _≤_, _<_};
 ghost use lib.ListN.{length, drop};
@@ -34,20 +35,13 @@ const LAST_VISIBLE: u8 = 126;
 // The decimals are below this.
 const MODULUS: u64 = 4294967296;
 
-// Where the piece that begins at `from` ends: at the first byte b, or at the end.
+// Where the piece that begins at `from` ends: at the first byte b, or at the end. The reader of fields finds it.
 pub fn piece_end(s: &[u8], from: usize, b: u8) -> usize
     requires { ⌜ from ≤ length (now s) ⌝ }
     ensures is { λ r. ⌜ r ≡ from + span b (drop from (now (s .entry))) ⌝ }
     ensures within { λ r. ⌜ (from ≤ r) × (r ≤ length (now (s .entry))) ⌝ }
 {
-    let mut i: usize = from;
-    while i < s.len() {
-        if s[i] == b {
-            return i;
-        }
-        i += 1;
-    }
-    i
+    reader::field(s, from, b)
 }
 
 // How often a byte stands in a text.

@@ -19,7 +19,8 @@ use Rattle.table.specs.Table.{signature, mask}
 use Rattle.fields.specs.Fields.{span, rest, visible-span, occurrences, count-of, packed, is-name-byte}
 use Rattle.fields.specs.declared.Strict.{Strict}
 use Rattle.fields.specs.declared.Strict.the-variants as strict
-use Rattle.fields.proofs.Laws.{first-piece, next-piece, no-piece, span-within, piece-count, sight-end, sight-tab, sight-other, sight-none, one-less, at-start, Bytes, packed-same}
+use Rattle.reader.proofs.Laws.{span-within}
+use Rattle.fields.proofs.Laws.{first-piece, next-piece, no-piece, piece-count, sight-end, sight-tab, sight-other, sight-none, one-less, at-start, Bytes, packed-same}
 use Rattle.lines.specs.Lines.{shown, shape-2, body-fields, raw-lines, Right, part, Parted, line-signature, name-number, bit, is-held, judge-packed}
 use Rattle.lines.specs.declared.Judgement.{Judgement}
 use Rattle.lines.specs.declared.Judgement.the-variants.{Passes, Refused}

@@ -248,3 +248,34 @@ pub fn run(text: &[u8], args: &[u32], limit: u32, code: &mut [u32], work: &mut [
     );
     run_table(c, &heads, &words, &values, &ends, args, limit, code, work)
 }
+
+// The same three for a caller in C, declared in include/nespralha.h: a slice is a pointer and a length.
+#[no_mangle]
+pub extern "C" fn nespralha_check(text: &[u8], heads: &mut [Head]) -> Checked
+    ensures { λ r. ⌜ (r ≡ check-answer (now (text .entry)) (length (now (heads .entry)))) × (now (heads .exit) ≡ check-heads (now (text .entry)) (now (heads .entry))) ⌝ }
+{
+    check(text, heads)
+}
+
+#[no_mangle]
+pub extern "C" fn nespralha_translate(text: &[u8], code: &mut [u32]) -> Checked
+    ensures answer { λ r. ⌜ r ≡ translate-answer (now (text .entry)) (length (now (code .entry))) ⌝ }
+    ensures code { λ _. ⌜ now (code .exit) ≡ translate-code (now (text .entry)) (now (code .entry)) ⌝ }
+{
+    translate(text, code)
+}
+
+#[no_mangle]
+pub extern "C" fn nespralha_run(
+    text: &[u8],
+    args: &[u32],
+    limit: u32,
+    code: &mut [u32],
+    work: &mut [u32],
+) -> Answer
+    ensures answer { λ r. ⌜ r ≡ run-answer (now (text .entry)) (now (args .entry)) limit (length (now (code .entry))) (length (now (work .entry))) ⌝ }
+    ensures code { λ _. ⌜ now (code .exit) ≡ run-code (now (text .entry)) (now (args .entry)) (now (code .entry)) (length (now (work .entry))) ⌝ }
+    ensures work { λ _. ⌜ now (work .exit) ≡ run-work (now (text .entry)) (now (args .entry)) (length (now (code .entry))) (now (work .entry)) ⌝ }
+{
+    run(text, args, limit, code, work)
+}

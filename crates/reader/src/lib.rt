@@ -1,6 +1,6 @@
 // The reader of fields: it holds the text it was lent and the place it has reached; nothing is copied out of the text.
-// `new`, `next` and `at` are thin and proved by hand over the covered `first_at`; `field` is the plain function above them that every reader of
-// fields goes through, and whoever calls it needs no proof by hand. Assumes nothing.
+// `new`, `next` and `at` are thin and proved by hand over the covered `first_at`; `field` is the plain function above them that `fields::piece_end`
+// goes through, and whoever calls it needs no proof by hand. Assumes nothing.
 ghost use mathlib.Core.Path.{_≡_};
 ghost use Prim.Native.Nat.{_+_};
 ghost use lib.ListN.{drop};

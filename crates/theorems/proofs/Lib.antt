@@ -20,3 +20,5 @@ pub mod Endings
 pub mod Refusals
 pub mod Early
 pub mod Headlines
+-- Frauds.
+pub mod Frauds

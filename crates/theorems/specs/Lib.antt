@@ -4,3 +4,4 @@ pub mod Limits
 pub mod Outcomes
 pub mod Early
 pub mod Theorems
+pub mod Frauds
