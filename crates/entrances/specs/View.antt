@@ -9,7 +9,7 @@ use Rattle.meaning.specs.Basics.{if_then_else_}
 use Rattle.meaning.specs.Arithmetic.{add, neg, op-constant}
 use Rattle.meaning.specs.Terms.{Term, arg, op, cond, call, Terms, nil, cons, Program}
 use Rattle.meaning.specs.Code.{size, sizes, count, entrance, row-entrance, entrances, unsorted, Instruction, EVAL, EXEC, SELECT, CALL, code}
-use Rattle.table.specs.Table.{op-word, cond-word, first-function}
+use Rattle.table.specs.Table.{op-word, cond-word, first-function, strict-unit}
 
 unfoldable pub joined : Terms → Terms → Terms
 joined nil us = us
@@ -53,7 +53,7 @@ operations-agree = refl
 
 -- A signature's strict count.
 abbrev pub strict-in : ℕ → ℕ
-strict-in signature = signature / 8192
+strict-in signature = signature / strict-unit
 
 unfoldable pub leads-of : List ℕ → ℕ → ℕ
 leads-of H w =

@@ -1,7 +1,10 @@
 // The figures: each line of standard input has a number of code words, a number of work words, and what stands on the program's standard input, with
 // \t, \n, \\ and \xHH for bytes that are no plain text. For each the program's line is written, so much memory being lent.
-// The cases are document 01's rows, both sides of each of its limits, and the vectors of implementations that were written apart.
+// The cases are document 01's rows, both sides of each of its limits, the rules of examples/, and the vectors of implementations that were written apart.
 // Assumes of `io` and `libc` that the bytes of standard input arrive in the buffer and those of the lines are written.
+use meaning::MOST_CODE_WORDS;
+use meaning::WORK_WORDS;
+use order::MOST_INPUT;
 use printing::Printed;
 ghost use Prim.Native.Nat.{_<_, _≤_};
 ghost use lib.ListN.{length};
@@ -106,11 +109,11 @@ fn show(line: Printed)
 }
 
 fn figure(line: &[u8], input: &mut [u8], code: &mut [u32], work: &mut [u32]) {
-    let a = fields::piece_end(line, 0, 9);
+    let a = fields::piece_end(line, 0, fields::TAB);
     if line.len() - a == 0 {
         return;
     }
-    let b = fields::piece_end(line, a + 1, 9);
+    let b = fields::piece_end(line, a + 1, fields::TAB);
     if line.len() - b == 0 {
         return;
     }
@@ -123,7 +126,7 @@ fn figure(line: &[u8], input: &mut [u8], code: &mut [u32], work: &mut [u32]) {
 fn figures(lines: &[u8], input: &mut [u8], code: &mut [u32], work: &mut [u32]) {
     let mut at: usize = 0;
     while at < lines.len() {
-        let e = fields::piece_end(lines, at, 10);
+        let e = fields::piece_end(lines, at, fields::LINE_END);
         figure(&lines[at..e], input, code, work);
         at = e + 1;
     }
@@ -131,9 +134,9 @@ fn figures(lines: &[u8], input: &mut [u8], code: &mut [u32], work: &mut [u32]) {
 
 fn main() {
     let mut lines = [0u8; 262144];
-    let mut input = [0u8; 16514];
-    let mut code = [0u32; 12408];
-    let mut work = [0u32; 8192];
+    let mut input = [0u8; MOST_INPUT];
+    let mut code = [0u32; MOST_CODE_WORDS];
+    let mut work = [0u32; WORK_WORDS];
     let n = io::read_full(0, &mut lines);
     figures(&lines[..n], &mut input, &mut code, &mut work);
 }

@@ -1,5 +1,6 @@
 // Heads of functions: collected by value from the table's signatures and addresses, and the one thin writer that puts them into a lent slice. Assumes nothing.
 use meaning::Head;
+use meaning::MOST_FUNCTIONS;
 ghost use mathlib.Core.Path.{_≡_};
 ghost use mathlib.Core.List.{_++_};
 ghost use Prim.Native.Nat.{_<_, _≤_};
@@ -9,7 +10,7 @@ ghost use Rattle.heads.specs.Heads.{head, no-head, heads-by};
 
 // As many heads as a text can have: one a function, then entries of zeros.
 pub struct Heads {
-    pub list: [Head; 64],
+    pub list: [Head; MOST_FUNCTIONS],
 }
 
 // "argument count, strict count, result sort (n 0, b 1), address of the body's first symbol"
@@ -35,7 +36,7 @@ pub fn heads_of(signatures: &[u32], bodies: &[u32], n: usize) -> Heads
         result: 0,
         body: 0,
     };
-    let mut list = [none; 64];
+    let mut list = [none; MOST_FUNCTIONS];
     let mut i: usize = 0;
     while i < n {
         let x = head_of(signatures[i], bodies[i]);

@@ -1,5 +1,6 @@
 // Lists the code words of texts, one instruction a line, after Translate's answer (number, line, field, functions, instructions).
 // Standard input holds the texts, parted by byte 30: document 01's ID, and document 000's Example 73. Assumes what `io` and `libc` do.
+use meaning::MOST_CODE_WORDS;
 ghost use Prim.Native.Nat.{_≤_};
 ghost use lib.ListN.{length};
 
@@ -57,7 +58,7 @@ fn list_all(input: &[u8], code: &mut [u32]) {
 
 fn main() {
     let mut input = [0u8; 4096];
-    let mut code = [0u32; 12408];
+    let mut code = [0u32; MOST_CODE_WORDS];
     let n = io::read_full(0, &mut input);
     list_all(&input[..n], &mut code);
 }

@@ -72,3 +72,6 @@ pub const MOST_HEIGHT: usize = 512;
 pub const INSTRUCTION_WORDS: usize = 12;
 
 pub const WORK_WORDS: usize = 8192;
+
+// The most code words that a text needs: its symbols, those of the initial term, and RET.
+pub const MOST_CODE_WORDS: usize = INSTRUCTION_WORDS * (MOST_SYMBOLS + (1 + MOST_ARGUMENTS) + 1);

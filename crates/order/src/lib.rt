@@ -12,6 +12,9 @@ ghost use Rattle.order.specs.Asked.{nothing-asked, arguments-from, Told,
 // The longest first line.
 const FIRST_LINE_BYTES: usize = 128;
 
+// So many bytes of standard input settle the answer (`enough` in proofs/Enough.antt): the longest first line with its end, and a byte more than the longest text.
+pub const MOST_INPUT: usize = FIRST_LINE_BYTES + 1 + (meaning::MOST_BYTES + 1);
+
 // What a first line asks for: whether it is well formed, limit, arguments, how many of them, and where the text after it begins.
 pub struct Asked {
     pub formed: bool,

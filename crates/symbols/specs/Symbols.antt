@@ -10,7 +10,7 @@ use Rattle.meaning.specs.Arithmetic.{Sort, number, yes-no, Op, constant, add, s
 use Rattle.meaning.specs.Numbers.{most-arguments}
 use Rattle.meaning.specs.Text.{Field, value, is-name}
 use Rattle.meaning.specs.Terms.{Symbol as Means, argument, operation, condition, function, unknown, is-decimal, symbol}
-use Rattle.table.specs.Table.{symbol-word}
+use Rattle.table.specs.Table.{number-word, truth-word, add-word, sub-word, mul-word, div-word, rem-word, eq-word, lt-word, and-word, or-word, neg-word, cond-word, first-function, symbol-word}
 use Rattle.fields.specs.Fields.{packed}
 use Rattle.symbols.specs.declared.Symbol.{Symbol}
 use Rattle.symbols.specs.declared.Symbol.the-variants.{Argument, Number, Truth, Operation, Condition, Function, Unknown}
@@ -40,11 +40,11 @@ shown unknown = Unknown
 -- A case's word and value in the table.
 unfoldable pub word-of : Symbol → ℕ
 word-of (Argument i) = i + 1
-word-of (Number v) = 9
-word-of (Truth v) = 10
-word-of (Operation o) = 10 + o
-word-of Condition = 21
-word-of (Function k) = 32 + k
+word-of (Number v) = number-word
+word-of (Truth v) = truth-word
+word-of (Operation o) = truth-word + o
+word-of Condition = cond-word
+word-of (Function k) = first-function + k
 word-of Unknown = 0
 
 unfoldable pub value-of : Symbol → ℕ
@@ -88,19 +88,19 @@ short-word b = symbol-word (symbol [] (b ∷ []))
 unfoldable pub sign-by : ℕ → ℕ
 sign-by b =
     if eqb b (byte "!")
-    then 20
+    then neg-word
     else if eqb b (byte "%")
-    then 15
+    then rem-word
     else if eqb b (byte "&")
-    then 18
+    then and-word
     else if eqb b (byte "*")
-    then 13
+    then mul-word
     else if eqb b (byte "+")
-    then 11
+    then add-word
     else if eqb b (byte "-")
-    then 12
+    then sub-word
     else if eqb b (byte "/")
-    then 14
+    then div-word
     else 0
 
 unfoldable pub low-by : ℕ → ℕ
@@ -108,11 +108,11 @@ low-by b =
     if ltb b (byte "0")
     then sign-by b
     else if leb b (byte "9")
-    then 9
+    then number-word
     else if eqb b (byte "<")
-    then 17
+    then lt-word
     else if eqb b (byte "=")
-    then 16
+    then eq-word
     else 0
 
 unfoldable pub short-by : ℕ → ℕ
@@ -122,7 +122,7 @@ short-by b =
     else if leb b (byte "h")
     then b - byte "a" + 1
     else if eqb b (byte "|")
-    then 19
+    then or-word
     else 0
 
 unfoldable pub one-byte-symbol : List ℕ → Field → Means

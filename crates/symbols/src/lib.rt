@@ -6,6 +6,7 @@ ghost use mathlib.Core.Bool.{true};
 ghost use mathlib.Core.List.{List, [], _∷_, map};
 ghost use Prim.Native.Nat.{_+_, _≤_, _<_};
 ghost use lib.ListN.{length};
+ghost use Rattle.meaning.specs.Numbers.{most-functions};
 ghost use Rattle.meaning.specs.Text.{Field, is-visible};
 ghost use Rattle.meaning.specs.Terms.{symbol, unknown};
 ghost use Rattle.fields.specs.Fields.{packed};
@@ -41,25 +42,25 @@ fn sign_word(b: u8) -> u32
     ensures { λ r. ⌜ r ≡ sign-by b ⌝ }
 {
     if b == b'!' {
-        return 20;
+        return table::NOT;
     }
     if b == b'%' {
-        return 15;
+        return table::REM;
     }
     if b == b'&' {
-        return 18;
+        return table::AND;
     }
     if b == b'*' {
-        return 13;
+        return table::MUL;
     }
     if b == b'+' {
-        return 11;
+        return table::ADD;
     }
     if b == b'-' {
-        return 12;
+        return table::SUB;
     }
     if b == b'/' {
-        return 14;
+        return table::DIV;
     }
     0
 }
@@ -75,15 +76,15 @@ fn low_word(b: u8) -> u32
         return table::FIRST_CONSTANT;
     }
     if b == b'<' {
-        return 17;
+        return table::LT;
     }
     if b == b'=' {
-        return 16;
+        return table::EQ;
     }
     0
 }
 
-// The word of the symbol that one byte is, 9 for a digit, 0 where it is none.
+// The word of the symbol that one byte is, 0 where it is none.
 fn word_at(b: u8) -> u32
     ensures { λ r. ⌜ r ≡ short-word b ⌝ }
 {
@@ -94,7 +95,7 @@ fn word_at(b: u8) -> u32
         return wide(b - b'a') + 1;
     }
     if b == b'|' {
-        return 19;
+        return table::OR;
     }
     0
 }
@@ -118,7 +119,7 @@ fn short_of(b: u8, w: u32) -> Symbol
 
 // The function that has a packed name.
 fn function_of(names: &[u64], name: u64) -> Symbol
-    requires { ⌜ length (now names) ≤ 64 ⌝ }
+    requires { ⌜ length (now names) ≤ most-functions ⌝ }
     ensures is { λ r. ⌜ r ≡ shown (named-as 0 (now (names .entry)) name) ⌝ }
 {
     let mut i: usize = 0;
@@ -135,7 +136,7 @@ fn function_of(names: &[u64], name: u64) -> Symbol
 
 // A field of one byte.
 fn one_byte(names: &[u64], f: &[u8]) -> Symbol
-    requires { ⌜ (length (now names) ≤ 64) × (length (now f) ≡ 1) ⌝ }
+    requires { ⌜ (length (now names) ≤ most-functions) × (length (now f) ≡ 1) ⌝ }
     ensures { λ r. ⌜ r ≡ shown (one-byte-symbol (now (names .entry)) (now (f .entry))) ⌝ }
 {
     let b = f[0];
@@ -157,7 +158,7 @@ fn long_decimal(f: &[u8]) -> Symbol
 }
 
 fn decimal_or_function(names: &[u64], name: u64, f: &[u8]) -> Symbol
-    requires { ⌜ length (now names) ≤ 64 ⌝ }
+    requires { ⌜ length (now names) ≤ most-functions ⌝ }
     ensures { λ r. ⌜ r ≡ shown (decimal-or (now (f .entry)) (named-as 0 (now (names .entry)) name)) ⌝ }
 {
     match fields::decimal_value(f) {
@@ -168,7 +169,7 @@ fn decimal_or_function(names: &[u64], name: u64, f: &[u8]) -> Symbol
 
 // A field of no byte or of two to eight.
 fn some_bytes(names: &[u64], f: &[u8]) -> Symbol
-    requires { ⌜ (length (now names) ≤ 64) × (length (now f) ≤ 8) ⌝ }
+    requires { ⌜ (length (now names) ≤ most-functions) × (length (now f) ≤ 8) ⌝ }
     ensures { λ r. ⌜ r ≡ shown (some-bytes-symbol (now (names .entry)) (now (f .entry))) ⌝ }
 {
     let name = fields::packed_name(f);
@@ -186,7 +187,7 @@ fn some_bytes(names: &[u64], f: &[u8]) -> Symbol
 
 // The symbol that a field is, where the functions have the packed names.
 pub fn symbol_of(names: &[u64], f: &[u8]) -> Symbol
-    requires { ⌜ length (now names) ≤ 64 ⌝ }
+    requires { ⌜ length (now names) ≤ most-functions ⌝ }
     ensures by { λ r. ⌜ r ≡ shown (symbol-by (now (names .entry)) (now (f .entry))) ⌝ }
     ensures is { λ r. ⌜ ((N : List Field) → Named N → now (names .entry) ≡ map packed N → is-visible (now (f .entry)) ≡ true → r ≡ shown (symbol N (now (f .entry)))) ⌝ }
 {

@@ -11,6 +11,42 @@ use Rattle.meaning.specs.Code.{size, sizes, initial}
 use Rattle.meaning.specs.Answers.{sort-number}
 
 -- A symbol's word: 0 unknown, 1 to 8 the arguments, 9 a number, 10 `true` and `false`, 11 to 20 the operations `+` to `!`, 21 `cond`, 32 + f function f.
+abbrev pub number-word : ℕ
+number-word = 9
+
+abbrev pub truth-word : ℕ
+truth-word = 10
+
+abbrev pub add-word : ℕ
+add-word = 11
+
+abbrev pub sub-word : ℕ
+sub-word = 12
+
+abbrev pub mul-word : ℕ
+mul-word = 13
+
+abbrev pub div-word : ℕ
+div-word = 14
+
+abbrev pub rem-word : ℕ
+rem-word = 15
+
+abbrev pub eq-word : ℕ
+eq-word = 16
+
+abbrev pub lt-word : ℕ
+lt-word = 17
+
+abbrev pub and-word : ℕ
+and-word = 18
+
+abbrev pub or-word : ℕ
+or-word = 19
+
+abbrev pub neg-word : ℕ
+neg-word = 20
+
 abbrev pub cond-word : ℕ
 cond-word = 21
 
@@ -18,18 +54,18 @@ abbrev pub first-function : ℕ
 first-function = 32
 
 unfoldable pub op-word : Op → ℕ
-op-word (constant number v) = 9
-op-word (constant yes-no v) = 10
-op-word add = 11
-op-word sub = 12
-op-word mul = 13
-op-word div = 14
-op-word rem = 15
-op-word eq = 16
-op-word lt = 17
-op-word and = 18
-op-word or = 19
-op-word neg = 20
+op-word (constant number v) = number-word
+op-word (constant yes-no v) = truth-word
+op-word add = add-word
+op-word sub = sub-word
+op-word mul = mul-word
+op-word div = div-word
+op-word rem = rem-word
+op-word eq = eq-word
+op-word lt = lt-word
+op-word and = and-word
+op-word or = or-word
+op-word neg = neg-word
 
 unfoldable pub symbol-word : Symbol → ℕ
 symbol-word (argument i) = suc i
@@ -83,13 +119,26 @@ unfoldable mutual
   row-ends nil a = []
   row-ends (cons t ts) a = term-ends t a ++ row-ends ts (a + size t)
 
--- Sorts as a mask, the first in the lowest bit; a function's signature: argument count, result, sorts, strict count.
+-- Sorts as a mask, the first in the lowest bit.
 unfoldable pub mask : List Sort → ℕ
 mask [] = 0
 mask (s ∷ S) = sort-number s + 2 * mask S
 
+-- A function's signature in one word: argument count, result, one of so many masks, strict count.
+abbrev pub result-unit : ℕ
+result-unit = 16
+
+abbrev pub sorts-unit : ℕ
+sorts-unit = 32
+
+abbrev pub masks : ℕ
+masks = 256
+
+abbrev pub strict-unit : ℕ
+strict-unit = sorts-unit * masks
+
 unfoldable pub signature : List Sort → ℕ → Sort → ℕ
-signature S strict r = length S + 16 * sort-number r + 32 * mask S + 8192 * strict
+signature S strict r = length S + result-unit * sort-number r + sorts-unit * mask S + strict-unit * strict
 
 -- The whole table of a program.
 unfoldable pub bodies-words : Program → List ℕ

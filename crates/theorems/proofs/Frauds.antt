@@ -1,4 +1,4 @@
--- Each fraud is caught at a text of one line: `ID 1 n n a` at 7 and at 8, `ID 0 n n a` at 7, `X 0 n n + 7 0` at 7. Assumes nothing.
+-- Each fraud is caught at a text of one line: `ID 1 n n a` at 7 and at 8, `ID 0 n n a` and `X 0 n n + 7 0` at 7, DIF at 3 and 4294967290. Assumes nothing.
 use mathlib.Core.Path.{_≡_, refl, ap, _∙_}
 use mathlib.Core.List.{List, [], _∷_}
 use Prim.Native.Nat.{ℕ, zero, suc}
@@ -13,7 +13,7 @@ use Rattle.meaning.specs.Answers.{run-answer, heads-from, heads-of, judge-room,
 use Rattle.meaning.specs.declared.Head.{Head}
 use Rattle.meaning.specs.declared.Answer.{Answer}
 use Rattle.starred.specs.Table.{six-fields}
-use Rattle.theorems.specs.Frauds.{ARun, Runs, NoRunRefusesAll, NoRunAnswersOneValue, NoCheckWritesNothing, NoTranslateWritesNothing, NoRunIdles, NoRunInventsSteps, NoRunInventsRewrites}
+use Rattle.theorems.specs.Frauds.{ARun, Runs, NoRunRefusesAll, NoRunAnswersOneValue, NoCheckWritesNothing, NoTranslateWritesNothing, NoRunIdles, NoRunInventsSteps, NoRunInventsRewrites, NoRunLosesHours}
 use Rattle.theorems.proofs.Splitting.{clash}
 
 unfoldable fields : Answer → List ℕ
@@ -72,6 +72,10 @@ id-waiting f meets = by-figure f meets "ID\t0\tn\tn\ta\n" (7 ∷ []) 100 0 7 6 1
 sum-of-constants : (f : ARun) → Runs f → Answers f "X\t0\tn\tn\t+\t7\t0\n" (7 ∷ []) 100 0 7 6 4
 unfolding six-fields
 sum-of-constants f meets = by-figure f meets "X\t0\tn\tn\t+\t7\t0\n" (7 ∷ []) 100 0 7 6 4 refl
+
+dif-over-the-top : (f : ARun) → Runs f → Answers f "DIF\t2\tnn\tn\t-\ta\tb\n" (3 ∷ 4294967290 ∷ []) 100 0 9 8 2
+unfolding six-fields
+dif-over-the-top f meets = by-figure f meets "DIF\t2\tnn\tn\t-\ta\tb\n" (3 ∷ 4294967290 ∷ []) 100 0 9 8 2 refl
 
 pub no-run-refuses-all : NoRunRefusesAll
 unfolding at
@@ -137,3 +141,10 @@ unfolding nth zeros
 no-translate-writes-nothing f meets same =
     let text = bytes "ID\t1\tn\tn\ta\n" in
     clash (cc (id-first-word, ap (nth 0) (meets text (zeros 48) .written), ap (nth 0) (same text (zeros 48))))
+
+pub no-run-loses-hours : NoRunLosesHours
+unfolding at
+no-run-loses-hours f meets loses =
+    let a = dif-over-the-top f meets in
+    let none = loses 3 4294967290 100 (zeros most-code-words) (zeros work-words) (a .number-is) in
+    clash (cc (none, a .value-is))

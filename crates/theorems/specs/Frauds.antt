@@ -1,8 +1,9 @@
 -- The frauds that document 01 names ('How tight a statement has to be'), as functions of any shape from what goes in to what comes out. None of them meets
 -- its contract: proofs/Frauds.antt proves each statement under the name that its comment gives. Assumes nothing.
 use mathlib.Core.Path.{_≡_}
-use mathlib.Core.List.{List}
-use Prim.Native.Nat.{ℕ, _≤_}
+use mathlib.Core.List.{List, [], _∷_}
+use Prim.Native.Nat.{ℕ, _-_, _≤_}
+use Rattle.meaning.specs.Basics.{bytes}
 use Rattle.meaning.specs.declared.Head.{Head}
 use Rattle.meaning.specs.declared.Checked.{Checked}
 use Rattle.meaning.specs.declared.Answer.{Answer}
@@ -80,4 +81,13 @@ NoRunInventsRewrites =
     → ((text args : List ℕ) (limit : ℕ) (code work : List ℕ) →
     let answer = f .answer text args limit code work in
     answer .number ≡ 0 → answer .rewrites ≡ invented (answer .value) (answer .steps))
+    → ⊥
+
+-- `no-run-loses-hours`. The engine that came with the rules (document 00): "its subtraction stopped at zero". (So does `-` here.)
+abbrev pub NoRunLosesHours : Type 0
+NoRunLosesHours =
+    (f : ARun) → Runs f
+    → ((later earlier limit : ℕ) (code work : List ℕ) →
+    let answer = f .answer (bytes "DIF\t2\tnn\tn\t-\ta\tb\n") (later ∷ earlier ∷ []) limit code work in
+    answer .number ≡ 0 → answer .value ≡ later - earlier)
     → ⊥

@@ -40,14 +40,16 @@ pub fn hold_program(path: &str, seed: u64) -> (usize, Vec<String>) {
     (inputs.len(), inputs.iter().filter_map(wrong).collect())
 }
 
-fn printed(path: &str, input: &[u8]) -> Vec<u8> {
+/// What the program at a path prints.
+pub fn printed(path: &str, input: &[u8]) -> Vec<u8> {
     let mut program = Command::new(path).stdin(Stdio::piped()).stdout(Stdio::piped()).spawn().expect("the program");
     // A program may answer before it has read all of its input.
     let _ = program.stdin.take().expect("its input").write_all(input);
     program.wait_with_output().expect("its output").stdout
 }
 
-fn run(run: Run, input: &Input) -> Answer {
+/// An engine's answer to the program's input, with as much lent as the program lends.
+pub fn run(run: Run, input: &Input) -> Answer {
     run(input.text, &input.args, input.limit, &mut [0; MOST_CODE_WORDS], &mut [0; WORK_WORDS])
 }
 

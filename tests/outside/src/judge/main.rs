@@ -1,17 +1,17 @@
-//! The judge: figures, vectors and generated cases, then 'N passed, M failed'.
+//! The judge: figures, vectors, examples, pages and generated cases, then 'N passed, M failed'.
 
 use outside::boundary::{Answer, Checked, DEEP, HALT, LINKED, NUMBER_NAMES};
 use outside::compare::compare;
 use outside::demands::{hold, Verdict};
 use outside::generate::{self, Case};
 use outside::spec::{arguments_fit, code, machine, text};
-use outside::{figures, vectors};
+use outside::{examples, figures, pages, vectors};
 use std::collections::BTreeMap;
 use std::process::exit;
 use std::sync::atomic::{AtomicU64, AtomicUsize, Ordering::Relaxed};
 use std::time::{Duration, Instant};
 
-const USAGE: &str = "judge [--seed S] [--cases N] [--threads T]   figures, vectors and N generated cases
+const USAGE: &str = "judge [--seed S] [--cases N] [--threads T]   figures, vectors, examples, pages and N generated cases
 judge --seed S --case K                      one generated case, shown in full";
 
 /// Failures of one kind that are shown; the others are only counted.
@@ -61,8 +61,14 @@ fn main() {
     println!("seed {}, {} cases, {} threads", options.seed, options.cases, options.threads);
     let start = Instant::now();
     let mut tally = Tally::default();
-    let mut held = vec![("figures", figures::hold()), ("lines of base.txt", vectors::hold())];
-    if let Ok(program) = std::env::var("NESPRALHA_PROGRAM") {
+    let program = std::env::var("NESPRALHA_PROGRAM").ok();
+    let mut held = vec![
+        ("figures", figures::hold()),
+        ("lines of base.txt", vectors::hold()),
+        ("looks at examples/", examples::hold(program.as_deref())),
+        ("looks at the pages", pages::hold()),
+    ];
+    if let Some(program) = program {
         held.push(("inputs of the program", vectors::hold_program(&program, options.seed)));
     }
     for (what, (tried, failures)) in held {
