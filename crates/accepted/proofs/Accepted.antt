@@ -19,12 +19,12 @@ unfolding _>>_
 fine-then (fine tt) y e = (refl, e)
 fine-then (refused n l k) y e = clash (cc)
 
-fine-bind : {A B : Type 0} (x : Verdict A) (f : A → Verdict B) {b : B} → x >>= f ≡ fine b → (a : A) × (x ≡ fine a) × (f a ≡ fine b)
+pub fine-bind : {A B : Type 0} (x : Verdict A) (f : A → Verdict B) {b : B} → x >>= f ≡ fine b → (a : A) × (x ≡ fine a) × (f a ≡ fine b)
 unfolding _>>=_
 fine-bind (fine a) f e = (a, refl, e)
 fine-bind (refused n l k) f e = clash (cc)
 
-fine-same : {A : Type 0} {a b : A} → fine a ≡ fine b → a ≡ b
+pub fine-same : {A : Type 0} {a b : A} → fine a ≡ fine b → a ≡ b
 fine-same e = cc
 
 -- What asks less of a call asks less of a term, and so do more arguments.

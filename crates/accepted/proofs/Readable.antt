@@ -67,7 +67,7 @@ unfolding entrances Every
 entrances-past nil a h = tt
 entrances-past (cons t ts) a h = (omega (arith, entrance-past t a, h), entrances-past ts (a + size t) (omega (arith, h)))
 
-entrances-count : (ts : Terms) (a : ℕ) → length (entrances ts a) ≡ count ts
+pub entrances-count : (ts : Terms) (a : ℕ) → length (entrances ts a) ≡ count ts
 unfolding entrances count
 entrances-count nil a = refl
 entrances-count (cons t ts) a = ap suc (entrances-count ts (a + size t))

@@ -19,17 +19,14 @@ use Rattle.symbols.specs.declared.Symbol.{Symbol as Case}
 use Rattle.symbols.proofs.Laws.{word-shown, value-shown}
 use Rattle.symbols.proofs.Names.{Names, is-a-name, visible-bytes, symbol-is, symbol-below, all-symbols-spelt}
 use Rattle.lines.specs.Splice.{splice}
-use Rattle.lines.specs.Lines.{body-fields, Right, raw-lines, part, Parted, name-number, line-signature}
+use Rattle.lines.specs.Lines.{body-fields, total, Right, raw-lines, part, Parted, name-number, line-signature}
 use Rattle.lines.proofs.Splice.{splice-none, splice-more, splice-set, splice-length}
 use Rattle.lines.proofs.Laws.{opened, Visible, Forms, right-forms, few-sorts, strict-few}
-use Rattle.terms.specs.Terms.{shown-wrong, Few, World, Said, Whole, Within}
-use Rattle.terms.specs.declared.Wrong.{Wrong}
-use Rattle.terms.specs.declared.Reached.{Reached}
-use Rattle.terms.specs.declared.Reached.the-variants.{Next, Fault}
+use Rattle.terms.specs.Terms.{wrong-code, Reached, Next, Fault, Few, World, Said, Whole, Within}
 use Rattle.terms.proofs.Flat.{term-symbols, words-are, values-are, symbol-count, end-count, Taken, taken-term}
 use Rattle.table.proofs.Signatures.{signature-count, signature-result, signature-sorts}
-use Rattle.terms.proofs.Laws.{clash}
-use Rattle.bodies.specs.Bodies.{words-by, values-by, number-of, Formed, total, Filled, Lined, Reaches, Finishes}
+use Rattle.terms.proofs.Laws.{clash, next-is}
+use Rattle.bodies.specs.Bodies.{words-by, values-by, number-of, Formed, Filled, Lined, Reaches, Finishes}
 use Rattle.bodies.specs.declared.Finished.{Finished}
 use Rattle.bodies.specs.declared.Finished.the-variants.{Done, Refused}
 
@@ -141,6 +138,20 @@ written-length w xs from to e h =
     let n : to - 0 ≡ to = omega arith in
     rw n (length-take-le to (splice w from xs) (omega (arith, splice-length w from xs h)))
 
+all-words : (M : List ℕ) (fs : List Field) → length (words-by M fs) ≡ length fs
+unfolding words-by
+all-words M [] = refl
+all-words M (f ∷ fs) = ap suc (all-words M fs)
+
+-- How long the table is up to the address after a line's symbols.
+pub table-end : (line M : List ℕ) (from to : ℕ) (w w1 : List ℕ) (a b c d : ℕ) → Parted line a b c d → to ≡ from + length (rest 9 (drop d line)) → w1 ≡ splice w from (words-by M (rest 9 (drop d line))) → from + body-fields line ≤ length w →
+    length (take (to - 0) (drop 0 w1)) ≡ from + body-fields line
+table-end line M from to w w1 a b c d P x y h =
+    let n = all-words M (rest 9 (drop d line)) in
+    let k : length (take (to - 0) (drop 0 w1)) ≡ to =
+    rw y (written-length w (words-by M (rest 9 (drop d line))) from to (omega (arith, x, n)) (omega (arith, h, n, body-count line a b c d P))) in
+    omega (arith, k, x, body-count line a b c d P)
+
 meant-by : (h : Line) (w w1 v v1 e e1 W : List ℕ) (from n : ℕ) (X Y : List ℕ) (ys : List Symbol) (R : Read Term) (r : Reached) →
     w1 ≡ splice w from X → v1 ≡ splice v from Y → X ≡ map symbol-word ys → Y ≡ map symbol-value ys → length ys ≡ length (h .body) → length W ≡ from + length (h .body) →
     Taken ys R → Said W from e e1 (nothing-after R) r → Filled h from w w1 v v1 e e1 (nothing-after R) r
@@ -150,21 +161,16 @@ meant-by h w w1 v v1 e e1 W from n X Y ys (got t []) r p q x z k o s d =
     (d .0, p ∙ ap (splice w from) (x ∙ ap (map symbol-word) all ∙ sym (words-are t)), q ∙ ap (splice v from) (z ∙ ap (map symbol-value) all ∙ sym (values-are t)), d .1)
 meant-by h w w1 v v1 e e1 W from n X Y ys (got t (y ∷ zs)) r p q x z k o s d =
     let m : suc (length zs) ≤ length (h .body) = omega (arith, k, ap length s, length-append (term-symbols t) (y ∷ zs)) in
-    (d ∙ ap (Fault (shown-wrong means.left-over)) (omega (arith, o, m)), m)
+    (d ∙ ap (Fault (wrong-code means.left-over)) (omega (arith, o, m)), m)
 meant-by h w w1 v v1 e e1 W from n X Y ys (fault u zs) r p q x z k o s d =
     let m : length zs ≤ length (h .body) = omega (arith, k, s) in
-    (d ∙ ap (Fault (shown-wrong u)) (omega (arith, o, m)), m)
+    (d ∙ ap (Fault (wrong-code u)) (omega (arith, o, m)), m)
 
 module _ (line M S : List ℕ) (own from to : ℕ) (w w1 v v1 e e1 : List ℕ) (r : Reached) (a b c d : ℕ) (P : Parted line a b c d) (right : wrong-field (pieces 9 line) ≡ 0)
     (x : to ≡ from + length (rest 9 (drop d line))) (y : w1 ≡ splice w from (words-by M (rest 9 (drop d line)))) (z : v1 ≡ splice v from (values-by M (rest 9 (drop d line))))
     (room : from + body-fields line ≤ length w) (u : Whole (take (to - 0) (drop 0 w1)) S own from e e1 r) where
   abbrev h : Line
   h = line-of (pieces 9 line)
-
-  count-words : (fs : List Field) → length (words-by M fs) ≡ length fs
-  unfolding words-by
-  count-words [] = refl
-  count-words (f ∷ fs) = ap suc (count-words fs)
 
   unfoldable world : (H : List Line) → S ≡ map line-signature H → Formed H → own ≡ line-signature h → World S own
   unfolding line-signature
@@ -185,10 +191,10 @@ module _ (line M S : List ℕ) (own from to : ℕ) (w w1 v v1 e e1 : List ℕ) (
   expected o = ap (λ (n : ℕ). n / 16 % 2) o ∙ signature-result (h .sorts) (h .strict) (h .result) (line-sorts (pieces 9 line) (right-forms (pieces 9 line) right))
 
   length-there : from + length (words-by M (rest 9 (drop d line))) ≤ length w
-  length-there = omega (arith, room, body-count line a b c d P, count-words (rest 9 (drop d line)))
+  length-there = omega (arith, room, body-count line a b c d P, all-words M (rest 9 (drop d line)))
 
   to-is : to ≡ from + length (words-by M (rest 9 (drop d line)))
-  to-is = omega (arith, x, count-words (rest 9 (drop d line)))
+  to-is = omega (arith, x, all-words M (rest 9 (drop d line)))
 
   there : (H : List Line) → M ≡ map name-number H → Formed H → words-by M (rest 9 (drop d line)) ≡ map symbol-word (map (symbol (names H)) (h .body))
   there H m F =
@@ -203,8 +209,7 @@ module _ (line M S : List ℕ) (own from to : ℕ) (w w1 v v1 e e1 : List ℕ) (
   meant : (H : List Line) → M ≡ map name-number H → S ≡ map line-signature H → Formed H → own ≡ line-signature h → Filled h from w w1 v v1 e e1 (read-body H h) r
   unfolding read-body world
   meant H m s F o =
-      let k : length (take (to - 0) (drop 0 w1)) ≡ to = rw y (written-length w (words-by M (rest 9 (drop d line))) from to to-is length-there) in
-      let n : length (take (to - 0) (drop 0 w1)) ≡ from + length (h .body) = omega (arith, k, x, ap length (body-is line a b c d P)) in
+      let n : length (take (to - 0) (drop 0 w1)) ≡ from + length (h .body) = omega (arith, table-end line M from to w w1 a b c d P x y room, body-count line a b c d P, ap length (body-is line a b c d P)) in
       meant-by h w w1 v v1 e e1 (take (to - 0) (drop 0 w1)) from 0 (words-by M (rest 9 (drop d line))) (values-by M (rest 9 (drop d line))) (map (symbol (names H)) (h .body))
       (read-term H (h .sorts) most-depth (h .result) (map (symbol (names H)) (h .body))) r y z (there H m F) (there-values H m F) (length-map (h .body) (symbol (names H)))
       n
@@ -214,25 +219,6 @@ module _ (line M S : List ℕ) (own from to : ℕ) (w w1 v v1 e e1 : List ℕ) (
 
   pub line-read : Lined line M S own from w w1 v v1 e e1 r
   line-read = record { lined = meant }
-
-  pub table-length : length (take (to - 0) (drop 0 w1)) ≡ from + body-fields line
-  table-length =
-      let k : length (take (to - 0) (drop 0 w1)) ≡ to = rw y (written-length w (words-by M (rest 9 (drop d line))) from to to-is length-there) in
-      omega (arith, k, x, body-count line a b c d P)
-
-all-words : (M : List ℕ) (fs : List Field) → length (words-by M fs) ≡ length fs
-unfolding words-by
-all-words M [] = refl
-all-words M (f ∷ fs) = ap suc (all-words M fs)
-
--- How long the table is up to the address after a line's symbols.
-pub table-end : (line M : List ℕ) (from to : ℕ) (w w1 : List ℕ) (a b c d : ℕ) → Parted line a b c d → to ≡ from + length (rest 9 (drop d line)) → w1 ≡ splice w from (words-by M (rest 9 (drop d line))) → from + body-fields line ≤ length w →
-    length (take (to - 0) (drop 0 w1)) ≡ from + body-fields line
-table-end line M from to w w1 a b c d P x y h =
-    let n = all-words M (rest 9 (drop d line)) in
-    let k : length (take (to - 0) (drop 0 w1)) ≡ to =
-    rw y (written-length w (words-by M (rest 9 (drop d line))) from to (omega (arith, x, n)) (omega (arith, h, n, body-count line a b c d P))) in
-    omega (arith, k, x, body-count line a b c d P)
 
 pub reaches : (n from k at : ℕ) (r : Reached) → Within n at r → n ≡ from + k → Reaches from k r
 unfolding Within Reaches
@@ -262,24 +248,24 @@ pub none-left : (L hs : List Line) (l from k : ℕ) (b w v e : List ℕ) → hs 
 unfolding Finishes read-bodies bodies-size addresses-from bodies-words bodies-values bodies-ends
 none-left L hs l from k b w v e x = rw x (ap Done (omega arith), splice-none b l, splice-none w from, splice-none v from, splice-none e from)
 
-number-shown : (w : means.Wrong) → number-of (shown-wrong w) ≡ no (wrong-number w)
-unfolding number-of shown-wrong wrong-number no
-number-shown means.unknown-symbol = refl
-number-shown means.lacking-argument = refl
-number-shown means.other-sort = refl
-number-shown means.early-end = refl
-number-shown means.left-over = refl
-number-shown means.too-deep = refl
+number-coded : (w : means.Wrong) → number-of (wrong-code w) ≡ no (wrong-number w)
+unfolding number-of wrong-code wrong-number no
+number-coded means.unknown-symbol = refl
+number-coded means.lacking-argument = refl
+number-coded means.other-sort = refl
+number-coded means.early-end = refl
+number-coded means.left-over = refl
+number-coded means.too-deep = refl
 
-fault-is : {r : Reached} {u v : Wrong} {p q : ℕ} → r ≡ Fault u p → r ≡ Fault v q → (u ≡ v) × (p ≡ q)
+fault-is : {r : Reached} {u v p q : ℕ} → r ≡ Fault u p → r ≡ Fault v q → (u ≡ v) × (p ≡ q)
 fault-is p q = (cc, cc)
 
-fault-place : (h : Line) (from : ℕ) (w w1 v v1 e e1 : List ℕ) (R : Read Term) (r : Reached) (x : Wrong) (p : ℕ) → Filled h from w w1 v v1 e e1 R r → r ≡ Fault x p → from ≤ p
+fault-place : (h : Line) (from : ℕ) (w w1 v v1 e e1 : List ℕ) (R : Read Term) (r : Reached) (x p : ℕ) → Filled h from w w1 v v1 e e1 R r → r ≡ Fault x p → from ≤ p
 unfolding Filled
 fault-place h from w w1 v v1 e e1 (got t ys) r x p k q = clash q (k .0)
 fault-place h from w w1 v v1 e e1 (fault u ys) r x p k q = omega (arith, fault-is (k .0) q .1)
 
-fault-line : (L : List Line) (h : Line) (l from : ℕ) (w w1 v v1 e e1 : List ℕ) (hs : List Line) (R : Read Term) (r : Reached) (x : Wrong) (p : ℕ) (b b1 w2 v2 e2 : List ℕ) (g : Finished) →
+fault-line : (L : List Line) (h : Line) (l from : ℕ) (w w1 v v1 e e1 : List ℕ) (hs : List Line) (R : Read Term) (r : Reached) (x p : ℕ) (b b1 w2 v2 e2 : List ℕ) (g : Finished) →
     Filled h from w w1 v v1 e e1 R r → r ≡ Fault x p → g ≡ Refused (number-of x) (l + 1) (5 + (p - from)) →
     Finishes l from b b1 w w2 v v2 e e2 (function-of (l + 1) h R >>= λ F. read-bodies L (l + 1 + 1) hs >>= λ P. fine (F ∷ P)) g
 unfolding Filled Finishes function-of _>>=_
@@ -287,7 +273,7 @@ fault-line L h l from w w1 v v1 e e1 hs (got t ys) r x p b b1 w2 v2 e2 g k q z =
 fault-line L h l from w w1 v v1 e e1 hs (fault u ys) r x p b b1 w2 v2 e2 g k q z =
     let d = fault-is (k .0) q in
     let m : 5 + (p - from) ≡ 5 + length (h .body) - length ys = omega (arith, d .1, k .1) in
-    z ∙ rw (← d .0, number-shown u, m)
+    z ∙ rw (← d .0, number-coded u, m)
 
 one-more : (l from n : ℕ) (h : Line) (t : Term) (b b1 w w1 w2 v v1 v2 e e1 e2 : List ℕ) (R : Verdict Program) (g : Finished) → l < length b → from ≤ length w → from ≤ length v → from ≤ length e → n ≡ from + size t →
     w1 ≡ splice w from (term-words t) → v1 ≡ splice v from (term-values t) → e1 ≡ splice e from (term-ends t from) →
@@ -305,16 +291,13 @@ one-more l from n h t b b1 w w1 w2 v v1 v2 e e1 e2 (fine P) g a o p q x y z u f 
       f .4 ∙ rw (x, u) (splice-more e from (size t) (term-ends t from) (bodies-ends P (from + size t)) (end-count t from) q),
     )
 
-next-place : {r : Reached} {n m : ℕ} → r ≡ Next n → r ≡ Next m → m ≡ n
-next-place p q = cc
-
 good-line : (L : List Line) (h : Line) (l from next : ℕ) (w w1 w2 v v1 v2 e e1 e2 b b1 : List ℕ) (hs : List Line) (R : Read Term) (r : Reached) (g : Finished) → l < length b → from ≤ length w → from ≤ length v → from ≤ length e →
     Filled h from w w1 v v1 e e1 R r → r ≡ Next next → Finishes (l + 1) next (set b l from) b1 w1 w2 v1 v2 e1 e2 (read-bodies L (l + 1 + 1) hs) g →
     Finishes l from b b1 w w2 v v2 e e2 (function-of (l + 1) h R >>= λ F. read-bodies L (l + 1 + 1) hs >>= λ P. fine (F ∷ P)) g
 unfolding Filled function-of _>>=_
 good-line L h l from next w w1 w2 v v1 v2 e e1 e2 b b1 hs (fault u ys) r g a o p q k x f = clash (k .0) x
 good-line L h l from next w w1 w2 v v1 v2 e e1 e2 b b1 hs (got t ys) r g a o p q k x f =
-    one-more l from next h t b b1 w w1 w2 v v1 v2 e e1 e2 (read-bodies L (l + 1 + 1) hs) g a o p q (next-place (k .0) x) (k .1) (k .2) (k .3) f
+    one-more l from next h t b b1 w w1 w2 v v1 v2 e e1 e2 (read-bodies L (l + 1 + 1) hs) g a o p q (next-is (k .0) x) (k .1) (k .2) (k .3) f
 
 -- One line of a text, which stands from `at` up to e.
 module _ (t : List ℕ) (at l e : ℕ) (right : Right (raw-lines t)) (index : drop l (lines t) ≡ lines (drop at t)) (more : lines (drop at t) ≡ line-of (pieces 9 (part t at e)) ∷ lines (drop (e + 1) t)) where
@@ -332,10 +315,10 @@ module _ (t : List ℕ) (at l e : ℕ) (right : Right (raw-lines t)) (index : dr
       Filled this from w w1 v v1 e0 e1 (read-body (lines t) this) r
   filled M S own from w w1 v v1 e0 e1 r m s o k = k .lined (lines t) m s formed (o ∙ ap (λ (X : List ℕ). getD X l 0) s ∙ here .1)
 
-  pub bad-place : (M S : List ℕ) (own from : ℕ) (w w1 v v1 e0 e1 : List ℕ) (r : Reached) (x : Wrong) (p : ℕ) → M ≡ map name-number (lines t) → S ≡ map line-signature (lines t) → own ≡ getD S l 0 → Lined (part t at e) M S own from w w1 v v1 e0 e1 r → r ≡ Fault x p → from ≤ p
+  pub bad-place : (M S : List ℕ) (own from : ℕ) (w w1 v v1 e0 e1 : List ℕ) (r : Reached) (x p : ℕ) → M ≡ map name-number (lines t) → S ≡ map line-signature (lines t) → own ≡ getD S l 0 → Lined (part t at e) M S own from w w1 v v1 e0 e1 r → r ≡ Fault x p → from ≤ p
   bad-place M S own from w w1 v v1 e0 e1 r x p m s o k q = fault-place this from w w1 v v1 e0 e1 (read-body (lines t) this) r x p (filled M S own from w w1 v v1 e0 e1 r m s o k) q
 
-  pub bad-line : (M S : List ℕ) (own from : ℕ) (w w1 v v1 e0 e1 : List ℕ) (r : Reached) (x : Wrong) (p : ℕ) (b b1 : List ℕ) (g : Finished) → M ≡ map name-number (lines t) → S ≡ map line-signature (lines t) → own ≡ getD S l 0 → Lined (part t at e) M S own from w w1 v v1 e0 e1 r → r ≡ Fault x p → g ≡ Refused (number-of x) (l + 1) (5 + (p - from)) →
+  pub bad-line : (M S : List ℕ) (own from : ℕ) (w w1 v v1 e0 e1 : List ℕ) (r : Reached) (x p : ℕ) (b b1 : List ℕ) (g : Finished) → M ≡ map name-number (lines t) → S ≡ map line-signature (lines t) → own ≡ getD S l 0 → Lined (part t at e) M S own from w w1 v v1 e0 e1 r → r ≡ Fault x p → g ≡ Refused (number-of x) (l + 1) (5 + (p - from)) →
       Finishes l from b b1 w w1 v v1 e0 e1 (read-bodies (lines t) (l + 1) (lines (drop at t))) g
   unfolding read-bodies
   bad-line M S own from w w1 v v1 e0 e1 r x p b b1 g m s o k q z =
@@ -353,7 +336,3 @@ module _ (t : List ℕ) (at l e : ℕ) (right : Right (raw-lines t)) (index : dr
 pub next-reach : (from n p : ℕ) (r : Reached) → Reaches from n r → r ≡ Next p → p ≤ from + n
 unfolding Reaches
 next-reach from n p r h e = subst (Reaches from n) e h
-
-pub fault-reach : (from n p : ℕ) (w : Wrong) (r : Reached) → Reaches from n r → r ≡ Fault w p → p ≤ from + n
-unfolding Reaches
-fault-reach from n p w r h e = subst (Reaches from n) e h

@@ -1,17 +1,17 @@
 // The bodies of a text by line: each body's fields go as symbols into the table, then the table is read as one term. Two looks at each byte (where a
 // line and its fields end), one to make a symbol of a field, one comparison a function for a name. Assumes nothing.
-use terms::Reached;
-use terms::Wrong;
 ghost use mathlib.Core.Path.{_≡_};
 ghost use mathlib.Core.List.{map};
-ghost use Prim.Native.Nat.{ℕ, _+_, _-_, _≤_, _<_};
+ghost use Prim.Native.Nat.{_+_, _-_, _≤_, _<_};
 ghost use lib.ListN.{length, drop};
+ghost use Rattle.meaning.specs.Numbers.{most-bytes, most-functions};
 ghost use Rattle.meaning.specs.Text.{wrong-field, pieces, lines};
 ghost use Rattle.meaning.specs.Terms.{read-bodies};
 ghost use Rattle.fields.specs.Fields.{rest};
 ghost use Rattle.lines.specs.Splice.{splice};
-ghost use Rattle.lines.specs.Lines.{body-fields, Right, raw-lines, name-number, line-signature};
-ghost use Rattle.bodies.specs.Bodies.{words-by, values-by, number-of, Lined, Reaches, Finishes, total};
+ghost use Rattle.lines.specs.Lines.{body-fields, total, Right, raw-lines, name-number, line-signature};
+ghost use Rattle.terms.specs.Terms.{faults, reached};
+ghost use Rattle.bodies.specs.Bodies.{words-by, values-by, number-of, Lined, Reaches, Finishes};
 
 // What reading all bodies comes to: the address after the last, or number, line and field.
 pub enum Finished {
@@ -22,13 +22,6 @@ pub enum Finished {
 // The field of a body's first symbol.
 const FIRST_SYMBOL: usize = 5;
 
-fn narrow(x: usize) -> u32
-    requires { ⌜ x < 4294967296 ⌝ }
-    ensures { λ r. ⌜ r ≡ x ⌝ }
-{
-    x as u32
-}
-
 // The fields after the tab at `at` as symbols, into the table from `from` on; the address after them.
 fn fill(
     line: &[u8],
@@ -38,7 +31,7 @@ fn fill(
     words: &mut [u32],
     values: &mut [u32],
 ) -> usize
-    requires { ⌜ length (now names) ≤ 64 ⌝ }
+    requires { ⌜ length (now names) ≤ most-functions ⌝ }
     requires { ⌜ (from + length (rest 9 (drop at (now line))) ≤ length (now words)) × (from + length (rest 9 (drop at (now line))) ≤ length (now values)) ⌝ }
     ensures place { λ r. ⌜ r ≡ from + length (rest 9 (drop at (now (line .entry)))) ⌝ }
     ensures words { λ _. ⌜ now (words .exit) ≡ splice (now (words .entry)) from (words-by (now (names .entry)) (rest 9 (drop at (now (line .entry))))) ⌝ }
@@ -68,11 +61,11 @@ fn read_line(
     words: &mut [u32],
     values: &mut [u32],
     ends: &mut [u32],
-) -> Reached
-    requires { ⌜ (length (now names) ≤ 64) × (wrong-field (pieces 9 (now line)) ≡ 0) ⌝ }
-    requires { ⌜ (from + body-fields (now line) ≤ length (now words)) × (from + body-fields (now line) ≤ length (now values)) × (from + body-fields (now line) ≤ length (now ends)) × (from + body-fields (now line) ≤ 2048) ⌝ }
-    ensures read { λ r. ⌜ Lined (now (line .entry)) (now (names .entry)) (now (heads .entry)) own from (now (words .entry)) (now (words .exit)) (now (values .entry)) (now (values .exit)) (now (ends .entry)) (now (ends .exit)) r ⌝ }
-    ensures within { λ r. ⌜ Reaches from (body-fields (now (line .entry))) r ⌝ }
+) -> usize
+    requires { ⌜ (length (now names) ≤ most-functions) × (wrong-field (pieces 9 (now line)) ≡ 0) ⌝ }
+    requires { ⌜ (from + body-fields (now line) ≤ length (now words)) × (from + body-fields (now line) ≤ length (now values)) × (from + body-fields (now line) ≤ length (now ends)) × (from + body-fields (now line) < faults) ⌝ }
+    ensures read { λ r. ⌜ Lined (now (line .entry)) (now (names .entry)) (now (heads .entry)) own from (now (words .entry)) (now (words .exit)) (now (values .entry)) (now (values .exit)) (now (ends .entry)) (now (ends .exit)) (reached r) ⌝ }
+    ensures within { λ r. ⌜ Reaches from (body-fields (now (line .entry))) (reached r) ⌝ }
 {
     let t = lines::tabs_of(line);
     let at = t.result;
@@ -80,26 +73,26 @@ fn read_line(
     terms::read_body(&words[0..to], heads, own, from, ends)
 }
 
-// The number that the engine answers.
-fn number(w: Wrong) -> u32
-    ensures { λ r. ⌜ r ≡ number-of w ⌝ }
+// The number that the engine answers for what is wrong.
+fn number(wrong: usize) -> u32
+    ensures { λ r. ⌜ r ≡ number-of wrong ⌝ }
 {
-    match w {
-        Wrong::UnknownSymbol => meaning::TERM,
-        Wrong::LackingArgument => meaning::TERM,
-        Wrong::OtherSort => meaning::TERM,
-        Wrong::EarlyEnd => meaning::TERM,
-        Wrong::LeftOver => meaning::TERM,
-        Wrong::TooDeep => meaning::NEST,
+    if wrong == terms::TOO_DEEP {
+        return meaning::NEST;
     }
+    meaning::TERM
 }
 
 // What is wrong at address p of line l counted from 0, whose body begins at `from`.
-fn fault(w: Wrong, l: usize, from: usize, p: usize) -> Finished
-    requires { ⌜ (from ≤ p) × (p ≤ 2048) × (l ≤ 64) ⌝ }
-    ensures { λ r. ⌜ r ≡ Finished.Refused (number-of w) (l + 1) (5 + (p - from)) ⌝ }
+fn fault(wrong: usize, l: usize, from: usize, p: usize) -> Finished
+    requires { ⌜ (from ≤ p) × (p < faults) × (l ≤ most-functions) ⌝ }
+    ensures { λ r. ⌜ r ≡ Finished.Refused (number-of wrong) (l + 1) (5 + (p - from)) ⌝ }
 {
-    Finished::Refused(number(w), narrow(l + 1), narrow(FIRST_SYMBOL + (p - from)))
+    Finished::Refused(
+        number(wrong),
+        terms::narrow(l + 1),
+        terms::narrow(FIRST_SYMBOL + (p - from)),
+    )
 }
 
 // The bodies of the lines that begin at `at`, the first of them being line l counted from 0, into the table from `from` on.
@@ -115,9 +108,9 @@ pub fn read_lines(
     values: &mut [u32],
     ends: &mut [u32],
 ) -> Finished
-    requires { ⌜ (length (now text) ≤ 16384) × Right (raw-lines (now text)) × Right (raw-lines (drop at (now text))) × (drop l (lines (now text)) ≡ lines (drop at (now text))) ⌝ }
-    requires { ⌜ (now names ≡ map name-number (lines (now text))) × (now heads ≡ map line-signature (lines (now text))) × (length (lines (now text)) ≤ 64) × (l ≤ 64) ⌝ }
-    requires { ⌜ (length (lines (now text)) ≤ length (now bodies)) × (from + total (lines (drop at (now text))) ≤ length (now words)) × (from + total (lines (drop at (now text))) ≤ length (now values)) × (from + total (lines (drop at (now text))) ≤ length (now ends)) × (from + total (lines (drop at (now text))) ≤ 2048) ⌝ }
+    requires { ⌜ (length (now text) ≤ most-bytes) × Right (raw-lines (now text)) × Right (raw-lines (drop at (now text))) × (drop l (lines (now text)) ≡ lines (drop at (now text))) ⌝ }
+    requires { ⌜ (now names ≡ map name-number (lines (now text))) × (now heads ≡ map line-signature (lines (now text))) × (length (lines (now text)) ≤ most-functions) × (l ≤ most-functions) ⌝ }
+    requires { ⌜ (length (lines (now text)) ≤ length (now bodies)) × (from + total (lines (drop at (now text))) ≤ length (now words)) × (from + total (lines (drop at (now text))) ≤ length (now values)) × (from + total (lines (drop at (now text))) ≤ length (now ends)) × (from + total (lines (drop at (now text))) < faults) ⌝ }
     ensures { λ r. ⌜ Finishes l from (now (bodies .entry)) (now (bodies .exit)) (now (words .entry)) (now (words .exit)) (now (values .entry)) (now (values .exit)) (now (ends .entry)) (now (ends .exit)) (read-bodies (lines (now (text .entry))) (l + 1) (lines (drop at (now (text .entry))))) r ⌝ }
 {
     if text.len() <= at {
@@ -127,8 +120,8 @@ pub fn read_lines(
     if text.len() <= e {
         return Finished::Done(from);
     }
-    bodies[l] = narrow(from);
-    match read_line(
+    bodies[l] = terms::narrow(from);
+    let next = read_line(
         &text[at..e],
         names,
         heads,
@@ -137,8 +130,9 @@ pub fn read_lines(
         words,
         values,
         ends,
-    ) {
-        Reached::Next(next) => read_lines(
+    );
+    if next < terms::FAULTS {
+        return read_lines(
             text,
             e + 1,
             l + 1,
@@ -149,7 +143,7 @@ pub fn read_lines(
             words,
             values,
             ends,
-        ),
-        Reached::Fault(w, p) => fault(w, l, from, p),
+        );
     }
+    fault(next / terms::FAULTS, l, from, next % terms::FAULTS)
 }

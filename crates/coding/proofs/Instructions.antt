@@ -9,7 +9,7 @@ use lib.Seq.{take-suc, drop-cons, set-at, append-snoc, length-take-le, take-all}
 use borrow.Rule.Slice.PartMut.{putMid}
 use Rattle.meaning.specs.Arithmetic.{Op, constant, number, yes-no, add, sub, mul, div, rem, eq, lt, and, or, neg, op-number, op-constant}
 use Rattle.meaning.specs.Numbers.{instruction-words}
-use Rattle.meaning.specs.Terms.{Term, arg, op, cond, call, Terms, nil, cons}
+use Rattle.meaning.specs.Terms.{Term, arg, op, cond, call}
 use Rattle.meaning.specs.Code.{size, sizes, count, entrance, entrances, unsorted, SELECT, CALL, used-words, twelve}
 use Rattle.table.specs.Table.{cond-word, op-word, first-function}
 use Rattle.accepted.specs.Accepted.{Shaped}
@@ -17,6 +17,7 @@ use Rattle.entrances.specs.View.{first-operation, root, root-value, row, lead, 
 use Rattle.entrances.specs.Entrances.{written-at, TermAt, RowAt, Entrance, Passed, Entrances}
 use Rattle.entrances.proofs.Held.{word-is, value-is, end-is, leads-are, row-at, first-at, others-at, joined-others, deeper}
 use borrow.Author.Tests.{lt-ltb, le-ltb}
+use Rattle.accepted.proofs.Readable.{entrances-count}
 use Rattle.coding.specs.Coding.{words-of, operation-of, Plain, Selects, Calls, Stored}
 
 -- Unused words are 0.
@@ -29,11 +30,6 @@ filled-up : (m r : ℕ) (ws : List ℕ) → m ≤ r → length ws ≤ m → take
 filled-up m r [] h l = zeros m r h
 filled-up zero r (w ∷ ws) h l = absurd (omega (arith, l))
 filled-up (suc m) r (w ∷ ws) h l = ap (λ (xs : List ℕ). w ∷ xs) (filled-up m r ws (omega (arith, h)) (omega (arith, l)))
-
-pub entrances-count : (ts : Terms) (a : ℕ) → length (entrances ts a) ≡ count ts
-unfolding entrances count
-entrances-count nil a = refl
-entrances-count (cons t ts) a = ap suc (entrances-count ts (a + size t))
 
 module _ (H W E : List ℕ) where
   pub select-is : (a d m n x y : ℕ) → m ≡ getD E a 0 → n ≡ getD E m 0 → Entrance H W m d x → Entrance H W n d y →

@@ -22,9 +22,17 @@ use Rattle.fields.specs.declared.Decimal.the-variants.{Not, Value}
 
 -- Tests.
 
-and-false : (t : Bool) → t && false ≡ false
+pub and-false : (t : Bool) → t && false ≡ false
 and-false true = refl
 and-false false = refl
+
+pub and-left : (a b : Bool) → a && b ≡ true → a ≡ true
+and-left true b e = refl
+and-left false b e = e
+
+pub and-right : (a b : Bool) → a && b ≡ true → b ≡ true
+and-right true b e = e
+and-right false b e = let z : _≡_ {A = ℕ} 0 1 = cc in absurd (omega arith)
 
 -- Pieces.
 

@@ -1,29 +1,29 @@
--- Laws of lines: field by field, line by line, signatures, and packed names. Assumes nothing.
+-- Laws of lines: field by field, line by line, signatures, packed names, and the scan. Assumes nothing.
 use mathlib.Core.Path.{_≡_, refl, ap, sym, _∙_, subst}
-use mathlib.Core.List.{List, [], _∷_, _++_, map}
-use mathlib.Core.Bool.{Bool, true, false, _&&_, _||_}
+use mathlib.Core.List.{List, [], _∷_, map}
+use mathlib.Core.Bool.{Bool, true, false, _&&_}
 use Prim.Native.Nat.{ℕ, zero, suc, _+_, _-_, _*_, _^_, _<_, _≤_}
 use native.Mathlib.Omega.{arith}
 use native.Mathlib.Nat.{pow-succ', pow-le-pow-right}
-use native.Mathlib.Numerals.{add-one, sub-one}
-use lib.ListN.{length, getD, drop, take, drop-of-length-le, length-drop, length-map}
+use native.Mathlib.Numerals.{add-one}
+use lib.ListN.{length, getD, drop, take, set, drop-of-length-le, length-drop, length-map, length-set}
 use lib.Seq.{drop-cons, drop-drop, length-take-le, take-all, take-suc, getD-drop, getD-take}
-use lib.Dec.{ltb, leb, eqb}
-use borrow.Author.Tests.{lt-ltb, le-ltb, eq-eqb, ne-eqb, le-leb, lt-leb, leb-true, leb-false, eqb-true, eqb-false}
-use Rattle.meaning.specs.Basics.{if_then_else_, between, all, byte}
-use Rattle.meaning.specs.Arithmetic.{Sort, number, yes-no}
-use Rattle.meaning.specs.Numbers.{no, LINE, COUNT, NAME, most-functions, most-symbols}
-use Rattle.meaning.specs.Text.{Field, Verdict, fine, refused, Passed, Line, pieces, is-visible, is-name, is-capital, is-count, are-sorts, is-result, is-sort, value, value-from, forms, first-wrong, wrong-field, judge-line, judge-lines, judge-shape, sort-of, line-of, all-but-last, lines, judge-symbols, judge-counts, same, is-among, judge-names}
+use lib.Dec.{leb, eqb}
+use borrow.Author.Tests.{eq-eqb, ne-eqb, le-leb, lt-leb, leb-true, leb-false}
+use Rattle.meaning.specs.Basics.{if_then_else_, all}
+use Rattle.meaning.specs.Arithmetic.{number, yes-no}
+use Rattle.meaning.specs.Numbers.{no}
+use Rattle.meaning.specs.Text.{Field, fine, Passed, Line, pieces, onto-first, is-visible, is-name, is-capital, is-count, are-sorts, is-result, is-sort, value, value-from, forms, first-wrong, wrong-field, judge-line, judge-lines, judge-shape, sort-of, line-of, all-but-last, lines, judge-symbols, judge-counts}
 use Rattle.meaning.specs.Answers.{sort-number}
 use Rattle.table.specs.Table.{signature, mask}
 use Rattle.fields.specs.Fields.{span, rest, visible-span, occurrences, count-of, packed, is-name-byte}
 use Rattle.fields.specs.declared.Strict.{Strict}
 use Rattle.fields.specs.declared.Strict.the-variants as strict
-use Rattle.reader.proofs.Laws.{span-within}
-use Rattle.fields.proofs.Laws.{first-piece, next-piece, no-piece, piece-count, sight-end, sight-tab, sight-other, sight-none, one-less, at-start, Bytes, packed-same}
-use Rattle.lines.specs.Lines.{shown, shape-2, body-fields, raw-lines, Right, part, Parted, line-signature, name-number, bit, is-held, judge-packed}
-use Rattle.lines.specs.declared.Judgement.{Judgement}
+use Rattle.fields.proofs.Laws.{first-piece, next-piece, no-piece, piece-count, sight-end, sight-tab, sight-other, sight-none, at-start}
+use Rattle.lines.specs.Lines.{shown, judgement, sound, judged-from, judged-2, judged-line, body-fields, raw-lines, Right, part, Parted, total, line-signature, name-number, misfit, Scan, bit, is-held, judge-packed}
+use Rattle.lines.specs.declared.Scanned.{Scanned}
 use Rattle.lines.specs.declared.Judgement.the-variants.{Passes, Refused}
+use Rattle.lines.proofs.Splice.{sets, sets-on, sets-splice}
 
 -- Tests.
 
@@ -38,16 +38,16 @@ and-right false b e = let z : _≡_ {A = ℕ} 0 1 = cc in absurd (omega arith)
 -- Field by field.
 
 module _ (l : List ℕ) (at : ℕ) (h : length l ≤ at) where
-  pub no-more : (k : ℕ) → 0 ≡ first-wrong k [] (rest 9 (drop at l))
-  unfolding first-wrong
+  pub no-more : (k : ℕ) → 65536 + k ≡ judged-from k [] (rest 9 (drop at l))
+  unfolding judged-from
   no-more k = rw (no-piece 9 l at h)
 
-  pub too-few : (k : ℕ) (form : Field → Bool) (forms : List (Field → Bool)) → k ≡ first-wrong k (form ∷ forms) (rest 9 (drop at l))
-  unfolding first-wrong
+  pub too-few : (k : ℕ) (form : Field → Bool) (forms : List (Field → Bool)) → k ≡ judged-from k (form ∷ forms) (rest 9 (drop at l))
+  unfolding judged-from
   too-few k form forms = rw (no-piece 9 l at h)
 
-  pub no-field-2 : 2 ≡ shape-2 (rest 9 (drop at l))
-  unfolding shape-2
+  pub no-field-2 : 2 ≡ judged-2 (rest 9 (drop at l))
+  unfolding judged-2
   no-field-2 = rw (no-piece 9 l at h)
 
 module _ (l : List ℕ) (at e : ℕ) (h : at < length l) (q : e ≡ at + 1 + span 9 (drop (at + 1) l)) where
@@ -55,13 +55,13 @@ module _ (l : List ℕ) (at e : ℕ) (h : at < length l) (q : e ≡ at + 1 + spa
   opened = next-piece 9 l at (at + 1) e h refl q
 
   pub form-fits : (k : ℕ) (form : Field → Bool) (forms : List (Field → Bool)) (v : Bool) → v ≡ form (part l (at + 1) e) → v ≡ true →
-      first-wrong (k + 1) forms (rest 9 (drop e l)) ≡ first-wrong k (form ∷ forms) (rest 9 (drop at l))
-  unfolding first-wrong
+      judged-from (k + 1) forms (rest 9 (drop e l)) ≡ judged-from k (form ∷ forms) (rest 9 (drop at l))
+  unfolding judged-from
   form-fits k form forms v x y = rw (opened, ← x, y)
 
   pub form-wrong : (k : ℕ) (form : Field → Bool) (forms : List (Field → Bool)) (v : Bool) → v ≡ form (part l (at + 1) e) → v ≡ false →
-      k ≡ first-wrong k (form ∷ forms) (rest 9 (drop at l))
-  unfolding first-wrong
+      k ≡ judged-from k (form ∷ forms) (rest 9 (drop at l))
+  unfolding judged-from
   form-wrong k form forms v x y = rw (opened, ← x, y)
 
 past : (e a : ℕ) → (e ≡ a → ⊥) → a ≤ e → a < e
@@ -84,27 +84,27 @@ module _ (l : List ℕ) (at e : ℕ) (h : at < length l) (q : e ≡ at + 1 + vis
       let n : stop - (at + 1) ≡ span 9 (drop (at + 1) l) = omega arith in
       next-piece 9 l at (at + 1) stop h refl refl ∙ ap (λ (k : ℕ). take k (drop (at + 1) l) ∷ rest 9 (drop stop l)) n
 
-  not-visible : (k : ℕ) → is-visible field ≡ false → k ≡ first-wrong k [] (rest 9 (drop at l))
-  unfolding first-wrong
+  not-visible : (k : ℕ) → is-visible field ≡ false → k ≡ judged-from k [] (rest 9 (drop at l))
+  unfolding judged-from
   not-visible k v = rw (seen, v)
 
-  pub empty-field : (k : ℕ) → e ≡ at + 1 → k ≡ first-wrong k [] (rest 9 (drop at l))
+  pub empty-field : (k : ℕ) → e ≡ at + 1 → k ≡ judged-from k [] (rest 9 (drop at l))
   empty-field k z = not-visible k (sight-none l (at + 1) e (omega arith) q z)
 
-  pub spoilt-field : (k : ℕ) → e < length l → (getD l e 0 ≡ 9 → ⊥) → k ≡ first-wrong k [] (rest 9 (drop at l))
+  pub spoilt-field : (k : ℕ) → e < length l → (getD l e 0 ≡ 9 → ⊥) → k ≡ judged-from k [] (rest 9 (drop at l))
   spoilt-field k o t = not-visible k (sight-other l (at + 1) e (omega arith) q o t)
 
   stop-is : at + 1 ≤ e → span 9 (drop (at + 1) l) ≡ e - (at + 1) → stop ≡ e
   stop-is m n = omega arith
 
-  pub last-field : (k : ℕ) → length l ≤ e → e ≤ length l → (e ≡ at + 1 → ⊥) → at + 1 ≤ e → 0 ≡ first-wrong k [] (rest 9 (drop at l))
-  unfolding first-wrong
+  pub last-field : (k : ℕ) → length l ≤ e → e ≤ length l → (e ≡ at + 1 → ⊥) → at + 1 ≤ e → 65536 + (k + 1) ≡ judged-from k [] (rest 9 (drop at l))
+  unfolding judged-from
   last-field k o p z m =
       let y = sight-end l (at + 1) e (omega arith) q o p (past e (at + 1) z m) in
       rw (seen, y .1, stop-is m (y .0)) (no-more l e o (k + 1))
 
-  pub good-field : (k : ℕ) → e < length l → getD l e 0 ≡ 9 → (e ≡ at + 1 → ⊥) → at + 1 ≤ e → first-wrong (k + 1) [] (rest 9 (drop e l)) ≡ first-wrong k [] (rest 9 (drop at l))
-  unfolding first-wrong
+  pub good-field : (k : ℕ) → e < length l → getD l e 0 ≡ 9 → (e ≡ at + 1 → ⊥) → at + 1 ≤ e → judged-from (k + 1) [] (rest 9 (drop e l)) ≡ judged-from k [] (rest 9 (drop at l))
+  unfolding judged-from
   good-field k o t z m =
       let y = sight-tab l (at + 1) e (omega arith) q o t (past e (at + 1) z m) in
       rw (seen, y .1, stop-is m (y .0))
@@ -120,20 +120,20 @@ strict-missing f false e = refl
 strict-missing f true e = let z : _≡_ {A = ℕ} 0 1 = cc in absurd (omega arith)
 
 module _ (l : List ℕ) (at e : ℕ) (h : at < length l) (q : e ≡ at + 1 + span 9 (drop (at + 1) l)) (d : Strict) (x : d ≡ count-of (part l (at + 1) e)) where
-  pub count-found : (s : ℕ) → d ≡ strict.Is s → first-wrong 3 (are-sorts s ∷ is-result ∷ is-visible ∷ []) (rest 9 (drop e l)) ≡ shape-2 (rest 9 (drop at l))
-  unfolding shape-2 count-of
+  pub count-found : (s : ℕ) → d ≡ strict.Is s → judged-from 3 (are-sorts s ∷ is-result ∷ is-visible ∷ []) (rest 9 (drop e l)) ≡ judged-2 (rest 9 (drop at l))
+  unfolding judged-2 count-of
   count-found s y =
       let k = strict-found (part l (at + 1) e) s (is-count (part l (at + 1) e)) (sym y ∙ x) in
       rw (opened l at e h q, k .0, k .1)
 
-  pub count-missing : d ≡ strict.Not → 2 ≡ shape-2 (rest 9 (drop at l))
-  unfolding shape-2 count-of
+  pub count-missing : d ≡ strict.Not → 2 ≡ judged-2 (rest 9 (drop at l))
+  unfolding judged-2 count-of
   count-missing y = rw (opened l at e h q, strict-missing (part l (at + 1) e) (is-count (part l (at + 1) e)) (sym y ∙ x))
 
 -- Field 1.
 
-from-name : (f : Field) (fs : List Field) → wrong-field (f ∷ fs) ≡ (if is-name f then shape-2 fs else 1)
-unfolding wrong-field forms first-wrong shape-2
+from-name : (f : Field) (fs : List Field) → judged-line (f ∷ fs) ≡ (if is-name f then judged-2 fs else 1)
+unfolding judged-line forms judged-from judged-2
 from-name f [] = refl
 from-name f (g ∷ fs) = refl
 
@@ -141,11 +141,69 @@ module _ (l : List ℕ) (e : ℕ) (q : e ≡ 0 + span 9 (drop 0 l)) where
   pub first-field : pieces 9 l ≡ part l 0 e ∷ rest 9 (drop e l)
   first-field = let n : e ≡ span 9 l = omega (arith, q) in let m : e - 0 ≡ e = omega arith in rw (m, n) (first-piece 9 l)
 
-  pub name-fits : (v : Bool) → v ≡ is-name (part l 0 e) → v ≡ true → shape-2 (rest 9 (drop e l)) ≡ wrong-field (pieces 9 l)
-  name-fits v x y = sym (ap wrong-field first-field ∙ from-name (part l 0 e) (rest 9 (drop e l)) ∙ rw (← x, y))
+  pub name-fits : (v : Bool) → v ≡ is-name (part l 0 e) → v ≡ true → judged-2 (rest 9 (drop e l)) ≡ judged-line (pieces 9 l)
+  name-fits v x y = sym (ap judged-line first-field ∙ from-name (part l 0 e) (rest 9 (drop e l)) ∙ rw (← x, y))
 
-  pub name-wrong : (v : Bool) → v ≡ is-name (part l 0 e) → v ≡ false → 1 ≡ wrong-field (pieces 9 l)
-  name-wrong v x y = sym (ap wrong-field first-field ∙ from-name (part l 0 e) (rest 9 (drop e l)) ∙ rw (← x, y))
+  pub name-wrong : (v : Bool) → v ≡ is-name (part l 0 e) → v ≡ false → 1 ≡ judged-line (pieces 9 l)
+  name-wrong v x y = sym (ap judged-line first-field ∙ from-name (part l 0 e) (rest 9 (drop e l)) ∙ rw (← x, y))
+
+-- The number that a line is judged by, told by its first wrong field and the field that would come next.
+
+abbrev told : ℕ → ℕ → ℕ
+told zero n = sound + n
+told (suc w) n = suc w
+
+told-by : (t : Bool) (k n j w : ℕ) → j ≡ told w n → (if t then j else suc k) ≡ told (if t then w else suc k) n
+told-by true k n j w e = e
+told-by false k n j w e = refl
+
+further : (k : ℕ) (forms : List (Field → Bool)) (fs : List Field) → judged-from (suc (suc k)) forms fs ≡ told (first-wrong (suc (suc k)) forms fs) (suc (suc k) + length fs) →
+    judged-from (suc k + 1) forms fs ≡ told (first-wrong (suc k + 1) forms fs) (suc k + suc (length fs))
+further k forms fs e =
+    let p : suc k + 1 ≡ suc (suc k) = omega arith in
+    let q : suc k + suc (length fs) ≡ suc (suc k) + length fs = omega arith in
+    rw (p, q) e
+
+judged-told : (k : ℕ) (forms : List (Field → Bool)) (fs : List Field) → judged-from (suc k) forms fs ≡ told (first-wrong (suc k) forms fs) (suc k + length fs)
+unfolding judged-from first-wrong
+judged-told k [] [] = omega arith
+judged-told k [] (f ∷ fs) = told-by (is-visible f) k _ _ _ (further k [] fs (judged-told (suc k) [] fs))
+judged-told k (form ∷ more) [] = refl
+judged-told k (form ∷ more) (f ∷ fs) = told-by (form f) k _ _ _ (further k more fs (judged-told (suc k) more fs))
+
+line-told : (fs : List Field) → judged-line fs ≡ told (wrong-field fs) (1 + length fs)
+unfolding judged-line wrong-field
+line-told fs = judged-told 0 (forms (value (getD fs 1 []))) fs
+
+within-by : (t : Bool) (k n w : ℕ) → w ≤ n → k ≤ n → (if t then w else k) ≤ n
+within-by true k n w e f = e
+within-by false k n w e f = f
+
+wrong-within : (k : ℕ) (forms : List (Field → Bool)) (fs : List Field) → first-wrong k forms fs ≤ k + length fs
+unfolding first-wrong
+wrong-within k [] [] = omega arith
+wrong-within k [] (f ∷ fs) = within-by (is-visible f) k _ _ (omega (arith, wrong-within (k + 1) [] fs)) (omega arith)
+wrong-within k (form ∷ more) [] = omega arith
+wrong-within k (form ∷ more) (f ∷ fs) = within-by (form f) k _ _ (omega (arith, wrong-within (k + 1) more fs)) (omega arith)
+
+line-within : (fs : List Field) → wrong-field fs ≤ 1 + length fs
+unfolding wrong-field
+line-within fs = wrong-within 1 (forms (value (getD fs 1 []))) fs
+
+-- Below `sound` it is the first wrong field; from there on none is wrong.
+told-wrong : (w n r : ℕ) → r ≡ told w n → r < 65536 → (r ≡ w) × (r ≡ 0 → ⊥)
+told-wrong zero n r e h = absurd (omega (arith, e))
+told-wrong (suc w) n r e h = (e, λ z. omega (arith, e))
+
+told-sound : (w n r : ℕ) → r ≡ told w n → w ≤ n → n < 65536 → 65536 ≤ r → (w ≡ 0) × (r ≡ 65536 + n)
+told-sound zero n r e o m h = (refl, e)
+told-sound (suc w) n r e o m h = absurd (omega (arith, e))
+
+pub wrong-line : (fs : List Field) (r : ℕ) → r ≡ judged-line fs → r < 65536 → (r ≡ wrong-field fs) × (r ≡ 0 → ⊥)
+wrong-line fs r e h = told-wrong (wrong-field fs) (1 + length fs) r (e ∙ line-told fs) h
+
+sound-line : (fs : List Field) (r : ℕ) → length fs ≤ 16385 → r ≡ judged-line fs → 65536 ≤ r → (wrong-field fs ≡ 0) × (r ≡ 65536 + (1 + length fs))
+sound-line fs r m e h = told-sound (wrong-field fs) (1 + length fs) r (e ∙ line-told fs) (line-within fs) (omega (arith, m)) h
 
 -- Line by line.
 
@@ -251,23 +309,22 @@ pub more-tabs : (l : List ℕ) (n : ℕ) → n ≡ occurrences 9 l → 3 ≤ n �
 unfolding body-fields
 more-tabs l n x h = omega (arith, length-drop 4 (pieces 9 l), piece-count 9 l)
 
-less-one : (ps : List Field) → length (all-but-last ps) ≡ length ps - 1
-unfolding all-but-last
-less-one [] = refl
-less-one (p ∷ []) = refl
-less-one (p ∷ q ∷ ps) = omega (arith, less-one (q ∷ ps))
-
-pub line-count : (t : List ℕ) → length (lines t) ≡ occurrences 10 t
-unfolding raw-lines
-line-count t = ap length (lines-raw t) ∙ length-map (raw-lines t) (λ p. line-of (pieces 9 p)) ∙ omega (arith, less-one (pieces 10 t), piece-count 10 t)
-
-pub over-functions : (t : List ℕ) (n : ℕ) → n ≡ occurrences 10 t → 64 < n → Refused 3 65 0 ≡ shown (judge-counts (lines t))
+pub over-functions : (L : List Line) (n : ℕ) → n ≡ length L → 64 < n → Refused 3 65 0 ≡ shown (judge-counts L)
 unfolding judge-counts shown no
-over-functions t n x h = rw (lt-leb (length (lines t)) 64 (omega (arith, line-count t)))
+over-functions L n x h = rw (lt-leb (length L) 64 (omega (arith, x)))
 
-pub few-functions : (t : List ℕ) (n : ℕ) → n ≡ occurrences 10 t → n ≤ 64 → judge-symbols 1 0 (lines t) ≡ judge-counts (lines t)
+pub few-functions : (L : List Line) (n : ℕ) → n ≡ length L → n ≤ 64 → judge-symbols 1 0 L ≡ judge-counts L
 unfolding judge-counts
-few-functions t n x h = rw (le-leb (length (lines t)) 64 (omega (arith, line-count t)))
+few-functions L n x h = rw (le-leb (length L) 64 (omega (arith, x)))
+
+all-symbols : (l seen : ℕ) (L : List Line) → seen + total L ≤ 1024 → judge-symbols l seen L ≡ fine tt
+unfolding judge-symbols total
+all-symbols l seen [] h = refl
+all-symbols l seen (k ∷ L) h = rw (le-leb (seen + length (k .body)) 1024 (omega (arith, h))) (all-symbols (l + 1) (seen + length (k .body)) L (omega (arith, h)))
+
+pub few-symbols : (L : List Line) (n : ℕ) → n ≡ total L → n ≤ 1024 → Passes ≡ shown (judge-symbols 1 0 L)
+unfolding shown
+few-symbols L n x h = rw (all-symbols 1 0 L (omega (arith, x)))
 
 pub symbols-done : (t : List ℕ) (at l seen : ℕ) → lines (drop at t) ≡ [] → Passes ≡ shown (judge-symbols l seen (lines (drop at t)))
 unfolding judge-symbols shown
@@ -321,8 +378,8 @@ module _ (M : List ℕ) (n l : ℕ) where
 
 -- Sorts as a mask.
 
-pub as-visible : (l : List ℕ) (at : ℕ) → at < length l → first-wrong 5 [] (rest 9 (drop at l)) ≡ first-wrong 5 (is-visible ∷ []) (rest 9 (drop at l))
-unfolding first-wrong
+pub as-visible : (l : List ℕ) (at : ℕ) → at < length l → judged-from 5 [] (rest 9 (drop at l)) ≡ judged-from 5 (is-visible ∷ []) (rest 9 (drop at l))
+unfolding judged-from
 as-visible l at h = rw (opened l at (at + 1 + span 9 (drop (at + 1) l)) h refl)
 
 pub none : (n : ℕ) → n - n ≡ 0
@@ -506,6 +563,25 @@ module _ (l : List ℕ) (e : ℕ) (q : e ≡ 0 + span 9 (drop 0 l)) (w : wrong-f
   unfolding name-number line-of
   named-by = rw (first-field l e q)
 
+-- The strict count is one byte: the second tab stands two bytes after the first.
+module _ (l : List ℕ) (e : ℕ) (q : e ≡ 0 + span 9 (drop 0 l)) (w : wrong-field (pieces 9 l) ≡ 0) where
+  abbrev second : ℕ
+  second = e + 1 + span 9 (drop (e + 1) l)
+
+  one-digit : length (part l (e + 1) second) ≡ 1
+  one-digit =
+      one-of (part l (e + 1) second) (ap (λ (fs : List Field). is-count (getD fs 1 [])) (sym (first-field l e q ∙ ap (λ (fs : List Field). part l 0 e ∷ fs) (opened l e second (tab-1 l e q w) refl))) ∙ right-forms (pieces 9 l) w .strict-form) .0
+
+  strict-tab : e + 2 ≡ e + 1 + span 9 (drop (e + 1) l)
+  strict-tab =
+      omega (arith, one-digit, length-take-le (second - (e + 1)) (drop (e + 1) l) (omega (arith, tab-2 l e q w second refl, length-drop (e + 1) l)))
+
+  pub sorts-begin : e + 2 < length l
+  sorts-begin = tab-2 l e q w (e + 2) strict-tab
+
+  pub sorts-tab : (c : ℕ) → c ≡ e + 2 + 1 + span 9 (drop (e + 2 + 1) l) → Parted l e (e + 2) c (c + 1 + span 9 (drop (c + 1) l))
+  sorts-tab c x = tab-4 l e q w (e + 2) strict-tab c x (c + 1 + span 9 (drop (c + 1) l)) refl
+
 -- A signature from its parts.
 pub signed-as : (n b m s : ℕ) (f : Field) (d r : ℕ) → n ≡ length f → b ≡ bit r → m ≡ mask (map sort-of f) → s ≡ d → n + 16 * b + 32 * m + 8192 * s ≡ signature (map sort-of f) d (sort-of r)
 unfolding signature
@@ -531,7 +607,141 @@ take-within zero l = omega arith
 take-within (suc n) [] = omega arith
 take-within (suc n) (x ∷ l) = omega (arith, take-within n l)
 
-pub body-within : (t : List ℕ) (at e n : ℕ) → n ≡ body-fields (part t at e) → n ≤ length t
+fields-within : (p : Field) → length (pieces 9 p) ≤ length p + 1
+fields-within p = omega (arith, piece-count 9 p, occurs-within 9 p)
+
+part-within : (t : List ℕ) (at e : ℕ) → length (part t at e) ≤ length t
+part-within t at e = omega (arith, take-within (e - at) (drop at t), length-drop at t)
+
+body-less : (p : Field) → body-fields p ≤ length p
 unfolding body-fields
-body-within t at e n x =
-    omega (arith, length-drop 4 (pieces 9 (part t at e)), piece-count 9 (part t at e), occurs-within 9 (part t at e), take-within (e - at) (drop at t), length-drop at t)
+body-less p = omega (arith, length-drop 4 (pieces 9 p), fields-within p)
+
+pub body-within : (t : List ℕ) (at e n : ℕ) → n ≡ body-fields (part t at e) → n ≤ length t
+body-within t at e n x = omega (arith, x, body-less (part t at e), part-within t at e)
+
+-- All bodies together have no more symbols than the text has bytes.
+abbrev lengths : List Field → ℕ
+lengths [] = 0
+lengths (p ∷ ps) = length p + lengths ps
+
+lengths-first : (x : ℕ) (ps : List Field) → lengths (onto-first x ps) ≡ suc (lengths ps)
+unfolding onto-first
+lengths-first x [] = omega arith
+lengths-first x (p ∷ ps) = omega arith
+
+lengths-by : (x : ℕ) (ps : List Field) (n : ℕ) (t : Bool) → lengths ps ≤ n → lengths (if t then [] ∷ ps else onto-first x ps) ≤ suc n
+lengths-by x ps n true h = omega arith
+lengths-by x ps n false h = omega (arith, lengths-first x ps)
+
+lengths-within : (b : ℕ) (s : List ℕ) → lengths (pieces b s) ≤ length s
+unfolding pieces
+lengths-within b [] = omega arith
+lengths-within b (x ∷ s) = lengths-by x (pieces b s) (length s) (eqb x b) (lengths-within b s)
+
+lengths-less : (ps : List Field) → lengths (all-but-last ps) ≤ lengths ps
+unfolding all-but-last
+lengths-less [] = omega arith
+lengths-less (p ∷ []) = omega arith
+lengths-less (p ∷ q ∷ ps) = omega (arith, lengths-less (q ∷ ps))
+
+total-lengths : (ps : List Field) → total (map (λ p. line-of (pieces 9 p)) ps) ≤ lengths ps
+unfolding total
+total-lengths [] = omega arith
+total-lengths (p ∷ ps) = omega (arith, total-lengths ps, body-length p, body-less p)
+
+pub total-within : (t : List ℕ) → total (lines t) ≤ length t
+unfolding raw-lines
+total-within t = omega (arith, ap total (lines-raw t), total-lengths (raw-lines t), lengths-less (pieces 10 t), lengths-within 10 t)
+
+-- The scan, line by line: what was written before line n, counted from 0, and what is still to come.
+
+pub record Scanning (text names₀ names heads₀ heads : List ℕ) (at n symbols : ℕ) : Type 0 where
+  pub place : n ≤ at
+  pub shape : judge-lines (n + 1) (pieces 10 (drop at text)) ≡ judge-shape text
+  pub lines-left : n + length (lines (drop at text)) ≡ length (lines text)
+  pub symbols-left : symbols + total (lines (drop at text)) ≡ total (lines text)
+  pub names-length : length names ≡ length names₀
+  pub heads-length : length heads ≡ length heads₀
+  pub names-left : sets names n (map name-number (lines (drop at text))) ≡ sets names₀ 0 (map name-number (lines text))
+  pub heads-left : sets heads n (map line-signature (lines (drop at text))) ≡ sets heads₀ 0 (map line-signature (lines text))
+
+pub scan-begins : (t names heads : List ℕ) → (length t ≡ 0 → ⊥) → Scanning t names names heads heads 0 0 0
+scan-begins t names heads h =
+    record { place = omega arith; shape = shape-some t h; lines-left = omega arith; symbols-left = omega arith; names-length = refl; heads-length = refl; names-left = refl; heads-left = refl }
+
+pub misfit-at : (l m k : ℕ) → l ≡ m → record { number = 2; line = l; field = k; functions = 0; symbols = 0 } ≡ misfit m k
+unfolding misfit no
+misfit-at l m k e = rw e
+
+pub scan-refused : (t names names′ heads heads′ : List ℕ) (l k : ℕ) (r : Scanned) → r ≡ misfit l k → Refused 2 l k ≡ shown (judge-shape t) → Scan t names names′ heads heads′ r
+unfolding misfit judgement no
+scan-refused t names names′ heads heads′ l k r e x =
+    let z : r .number ≡ 2 = ap (λ (s : Scanned). s .number) e in
+    record {
+      shape-judged = ap (λ (s : Scanned). judgement (s .number) (s .line) (s .field)) e ∙ x;
+      lines-counted = λ y. absurd (omega (arith, y, z));
+      symbols-counted = λ y. absurd (omega (arith, y, z));
+      names-filled = λ y m. absurd (omega (arith, y, z));
+      heads-filled = λ y m. absurd (omega (arith, y, z));
+    }
+
+module _ (t names₀ names heads₀ heads : List ℕ) (at n symbols : ℕ) (i : Scanning t names₀ names heads₀ heads at n symbols) where
+  pub scan-ends : length t ≤ at → Scan t names₀ names heads₀ heads (record { number = 0; line = 0; field = 0; functions = n; symbols = symbols })
+  unfolding judgement total sets
+  scan-ends h =
+      let x = end-lines t at h in
+      record {
+        shape-judged = shape-done t at h (n + 1) ∙ ap shown (i .shape);
+        lines-counted = λ y. omega (arith, i .lines-left, ap length x);
+        symbols-counted = λ y. omega (arith, i .symbols-left, ap total x);
+        names-filled = λ y m. sym (ap (λ (L : List Line). sets names n (map name-number L)) x) ∙ i .names-left ∙ sets-splice names₀ 0 (map name-number (lines t)) (omega (arith, m, length-map (lines t) name-number));
+        heads-filled = λ y m. sym (ap (λ (L : List Line). sets heads n (map line-signature L)) x) ∙ i .heads-left ∙ sets-splice heads₀ 0 (map line-signature (lines t)) (omega (arith, m, length-map (lines t) line-signature));
+      }
+
+  module _ (e : ℕ) (h : at < length t) (q : e ≡ at + span 10 (drop at t)) where
+    pub scan-open : (names′ heads′ : List ℕ) (r : Scanned) → length t ≤ e → r ≡ misfit (n + 1) 0 → Scan t names₀ names′ heads₀ heads′ r
+    scan-open names′ heads′ r o x = scan-refused t names₀ names′ heads₀ heads′ (n + 1) 0 r x (shape-open t at e h q (n + 1) o ∙ ap shown (i .shape))
+
+    pub scan-wrong : (names′ heads′ : List ℕ) (w : ℕ) (r : Scanned) → e < length t → w ≡ judged-line (pieces 9 (part t at e)) → w < 65536 → r ≡ misfit (n + 1) w → Scan t names₀ names′ heads₀ heads′ r
+    scan-wrong names′ heads′ w r o y z x =
+        let k = wrong-line (pieces 9 (part t at e)) w y z in
+        scan-refused t names₀ names′ heads₀ heads′ (n + 1) w r x (shape-bad t at e h q (n + 1) w o (k .0) (k .1) ∙ ap shown (i .shape))
+
+    module _ (w : ℕ) (o : e < length t) (m : length t ≤ 16384) (y : w ≡ judged-line (pieces 9 (part t at e))) (z : 65536 ≤ w) where
+      sound-part : (wrong-field (pieces 9 (part t at e)) ≡ 0) × (w ≡ 65536 + (1 + length (pieces 9 (part t at e))))
+      sound-part = sound-line (pieces 9 (part t at e)) w (omega (arith, fields-within (part t at e), part-within t at e)) y z
+
+      pub scan-right : wrong-field (pieces 9 (part t at e)) ≡ 0
+      scan-right = sound-part .0
+
+      pub scan-fields : 65541 ≤ w
+      scan-fields = omega (arith, sound-part .1, right-forms (pieces 9 (part t at e)) scan-right .enough)
+
+      next : lines (drop at t) ≡ line-of (pieces 9 (part t at e)) ∷ lines (drop (e + 1) t)
+      next = more-lines t at e h q o
+
+      body-count : w - 65541 ≡ body-fields (part t at e)
+      unfolding body-fields
+      body-count = omega (arith, sound-part .1, length-drop 4 (pieces 9 (part t at e)))
+
+      next-total : total (lines (drop at t)) ≡ w - 65541 + total (lines (drop (e + 1) t))
+      unfolding total
+      next-total = ap total next ∙ ap (λ (k : ℕ). k + total (lines (drop (e + 1) t))) (body-length (part t at e) ∙ sym body-count)
+
+      pub scan-room : symbols + (w - 65541) ≤ 16384
+      scan-room = omega (arith, i .symbols-left, next-total, total-within t, m)
+
+      pub scan-on : (names′ heads′ : List ℕ) → names′ ≡ set names n (name-number (line-of (pieces 9 (part t at e)))) → heads′ ≡ set heads n (line-signature (line-of (pieces 9 (part t at e)))) →
+          Scanning t names₀ names′ heads₀ heads′ (e + 1) (n + 1) (symbols + (w - 65541))
+      scan-on names′ heads′ a b =
+          record {
+            place = omega (arith, i .place, q);
+            shape = shape-on t at e h q (n + 1) 0 o (sym scan-right) refl ∙ i .shape;
+            lines-left = omega (arith, i .lines-left, ap length next);
+            symbols-left = omega (arith, i .symbols-left, next-total);
+            names-length = ap length a ∙ length-set names n _ ∙ i .names-length;
+            heads-length = ap length b ∙ length-set heads n _ ∙ i .heads-length;
+            names-left = sets-on names names′ n _ _ _ a (ap (map name-number) next) ∙ i .names-left;
+            heads-left = sets-on heads heads′ n _ _ _ b (ap (map line-signature) next) ∙ i .heads-left;
+          }

@@ -1,10 +1,10 @@
 -- Laws of splicing. Assumes nothing.
 use mathlib.Core.Path.{_≡_, refl, ap, sym, _∙_}
 use mathlib.Core.List.{List, [], _∷_, _++_, append-assoc}
-use Prim.Native.Nat.{ℕ, zero, suc, _+_, _-_, _<_, _≤_}
+use Prim.Native.Nat.{ℕ, zero, suc, _+_, _<_, _≤_}
 use native.Mathlib.Omega.{arith}
 use native.Mathlib.Numerals.{add-one}
-use lib.ListN.{length, getD, take, drop, set, length-append, length-drop, take-append-drop}
+use lib.ListN.{length, getD, take, drop, set, length-set, length-append, length-drop, take-append-drop}
 use lib.Seq.{drop-cons, take-suc, set-at, append-snoc, length-take-le, take-at, drop-at, drop-drop, take-suc-set, drop-set-lt}
 use Rattle.lines.specs.Splice.{splice}
 
@@ -52,3 +52,23 @@ drop-splice e a xs h = drop-at (take a e) (xs ++ drop (length xs) (drop a e)) a 
 -- A list that is written from its beginning begins with what was written.
 pub take-splice : (e : List ℕ) (n : ℕ) (xs : List ℕ) → length xs ≡ n → take n (splice e 0 xs) ≡ xs
 take-splice e n xs h = take-at xs (drop (length xs) e) n h
+
+-- Elements stored one after the other, as far as the list reaches.
+unfoldable pub sets : List ℕ → ℕ → List ℕ → List ℕ
+sets c j [] = c
+sets c j (x ∷ xs) = sets (set c j x) (j + 1) xs
+
+pub sets-on : (c d : List ℕ) (j x : ℕ) (xs ys : List ℕ) → d ≡ set c j x → xs ≡ x ∷ ys → sets d (j + 1) ys ≡ sets c j xs
+unfolding sets
+sets-on c d j x xs ys p q = rw (p, q)
+
+-- Where it reaches far enough they are all there.
+pub sets-splice : (c : List ℕ) (j : ℕ) (xs : List ℕ) → j + length xs ≤ length c → sets c j xs ≡ splice c j xs
+unfolding sets
+sets-splice c j [] h = splice-none c j
+sets-splice c j (x ∷ xs) h = sets-splice (set c j x) (j + 1) xs (omega (arith, h, length-set c j x)) ∙ splice-set c j x xs (omega (arith, h))
+
+pub set-past : (c : List ℕ) (j x : ℕ) → length c ≤ j → c ≡ set c j x
+set-past [] j x h = refl
+set-past (y ∷ c) zero x h = absurd (omega (arith, h))
+set-past (y ∷ c) (suc j) x h = ap (λ (l : List ℕ). y ∷ l) (set-past c j x (omega (arith, h)))

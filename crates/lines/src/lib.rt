@@ -1,20 +1,29 @@
-// The lines of a text: LINE over all of them, COUNT, names and signatures into lent arrays, NAME. The shape is judged in two looks at each byte
-// (where a line ends, what its fields hold); names cost a comparison for each pair of functions. Assumes nothing.
+// The lines of a text: LINE over all of them, counts, names and signatures on the way; COUNT, NAME. A scan looks twice at each byte (where a line
+// ends, what its fields hold) and once more at names and sorts; NAME costs a comparison for each pair of functions. Assumes nothing.
 use fields::Strict;
 ghost use mathlib.Core.Path.{_≡_};
 ghost use mathlib.Core.List.{[], _∷_, map};
-ghost use Prim.Native.Nat.{ℕ, _+_, _-_, _≤_, _<_};
-ghost use lib.ListN.{length, drop};
-ghost use Rattle.meaning.specs.Text.{is-visible, is-result, are-sorts, first-wrong, wrong-field, pieces, judge-shape, judge-symbols, judge-counts, lines, line-of, sort-of};
+ghost use Prim.Native.Nat.{_+_, _-_, _≤_, _<_};
+ghost use lib.ListN.{length, drop, set};
+ghost use Rattle.meaning.specs.Numbers.{most-bytes, most-functions};
+ghost use Rattle.meaning.specs.Text.{tab, is-visible, is-result, are-sorts, wrong-field, pieces, judge-symbols, judge-counts, lines, line-of, sort-of};
 ghost use Rattle.table.specs.Table.{signature, mask};
-ghost use Rattle.fields.specs.Fields.{rest, packed};
-ghost use Rattle.lines.specs.Splice.{splice};
-ghost use Rattle.lines.specs.Lines.{shown, shape-2, body-fields, Right, raw-lines, Parted, line-signature, bit, name-number, judge-packed, is-held};
+ghost use Rattle.fields.specs.Fields.{span, rest};
+ghost use Rattle.lines.specs.Lines.{shown, judged-from, judged-2, judged-line, body-fields, total, Parted, line-signature, bit, name-number, misfit, Scan, judge-packed, is-held};
 
 // What a test of a text comes to: number, line and field where it is refused.
 pub enum Judgement {
     Passes,
     Refused(u32, u32, u32),
+}
+
+// What the scan of a text comes to: number, line and field where its shape is refused, number 0 and the counts of its lines and body symbols where it passes.
+pub struct Scanned {
+    pub number: u32,
+    pub line: u32,
+    pub field: u32,
+    pub functions: usize,
+    pub symbols: usize,
 }
 
 // Where the first four tabs of a line stand.
@@ -31,6 +40,12 @@ const OVER_FUNCTIONS: u32 = meaning::MOST_FUNCTIONS as u32 + 1;
 // The field of the symbol that is one too many, where none stands above the line: four fields stand before a body.
 const OVER_SYMBOLS: usize = 4 + meaning::MOST_SYMBOLS + 1;
 
+// A line is judged in one number, which goes through a register: its first wrong field, or this and the field that would come next.
+const SOUND: u32 = 65536;
+
+// That of a line of the four fields that stand before a body.
+const SOUND_BODY: u32 = SOUND + 5;
+
 fn narrow(x: usize) -> u32
     requires { ⌜ x < 4294967296 ⌝ }
     ensures { λ r. ⌜ r ≡ x ⌝ }
@@ -38,10 +53,10 @@ fn narrow(x: usize) -> u32
     x as u32
 }
 
-// LINE: the first field that is not visible, of those after the tab at `at`, the first of them being field k.
-fn body_wrong(line: &[u8], at: usize, k: u32) -> u32
-    requires { ⌜ (length (now line) ≤ 16384) × (k ≤ 5) ⌝ }
-    ensures { λ r. ⌜ r ≡ first-wrong k [] (rest 9 (drop at (now (line .entry)))) ⌝ }
+// The fields after the tab at `at`, the first of them being field k: each is to be visible.
+fn judge_body(line: &[u8], at: usize, k: u32) -> u32
+    requires { ⌜ (length (now line) ≤ most-bytes) × (k ≤ 5) ⌝ }
+    ensures { λ r. ⌜ r ≡ judged-from k [] (rest tab (drop at (now (line .entry)))) ⌝ }
 {
     let mut i: usize = at;
     let mut n: u32 = k;
@@ -52,7 +67,7 @@ fn body_wrong(line: &[u8], at: usize, k: u32) -> u32
             return n;
         }
         if line.len() <= e {
-            return 0;
+            return SOUND + (n + 1);
         }
         if line[e] != fields::TAB {
             return n;
@@ -60,22 +75,22 @@ fn body_wrong(line: &[u8], at: usize, k: u32) -> u32
         i = e;
         n += 1;
     }
-    0
+    SOUND + n
 }
 
 fn from_5(line: &[u8], at: usize) -> u32
-    requires { ⌜ length (now line) ≤ 16384 ⌝ }
-    ensures { λ r. ⌜ r ≡ first-wrong 5 (is-visible ∷ []) (rest 9 (drop at (now (line .entry)))) ⌝ }
+    requires { ⌜ length (now line) ≤ most-bytes ⌝ }
+    ensures { λ r. ⌜ r ≡ judged-from 5 (is-visible ∷ []) (rest tab (drop at (now (line .entry)))) ⌝ }
 {
     if line.len() <= at {
         return 5;
     }
-    body_wrong(line, at, 5)
+    judge_body(line, at, 5)
 }
 
 fn from_4(line: &[u8], at: usize) -> u32
-    requires { ⌜ length (now line) ≤ 16384 ⌝ }
-    ensures { λ r. ⌜ r ≡ first-wrong 4 (is-result ∷ is-visible ∷ []) (rest 9 (drop at (now (line .entry)))) ⌝ }
+    requires { ⌜ length (now line) ≤ most-bytes ⌝ }
+    ensures { λ r. ⌜ r ≡ judged-from 4 (is-result ∷ is-visible ∷ []) (rest tab (drop at (now (line .entry)))) ⌝ }
 {
     if line.len() <= at {
         return 4;
@@ -89,8 +104,8 @@ fn from_4(line: &[u8], at: usize) -> u32
 }
 
 fn from_3(line: &[u8], at: usize, strict: u32) -> u32
-    requires { ⌜ length (now line) ≤ 16384 ⌝ }
-    ensures { λ r. ⌜ r ≡ first-wrong 3 (are-sorts strict ∷ is-result ∷ is-visible ∷ []) (rest 9 (drop at (now (line .entry)))) ⌝ }
+    requires { ⌜ length (now line) ≤ most-bytes ⌝ }
+    ensures { λ r. ⌜ r ≡ judged-from 3 (are-sorts strict ∷ is-result ∷ is-visible ∷ []) (rest tab (drop at (now (line .entry)))) ⌝ }
 {
     if line.len() <= at {
         return 3;
@@ -104,8 +119,8 @@ fn from_3(line: &[u8], at: usize, strict: u32) -> u32
 }
 
 fn from_2(line: &[u8], at: usize) -> u32
-    requires { ⌜ length (now line) ≤ 16384 ⌝ }
-    ensures { λ r. ⌜ r ≡ shape-2 (rest 9 (drop at (now (line .entry)))) ⌝ }
+    requires { ⌜ length (now line) ≤ most-bytes ⌝ }
+    ensures { λ r. ⌜ r ≡ judged-2 (rest tab (drop at (now (line .entry)))) ⌝ }
 {
     if line.len() <= at {
         return 2;
@@ -118,41 +133,16 @@ fn from_2(line: &[u8], at: usize) -> u32
     }
 }
 
-// The first field of a line that is wrong, 0 where none is.
-fn wrong_in(line: &[u8]) -> u32
-    requires { ⌜ length (now line) ≤ 16384 ⌝ }
-    ensures { λ r. ⌜ r ≡ wrong-field (pieces 9 (now (line .entry))) ⌝ }
+// A line: its first wrong field, or SOUND and the field that would come next.
+fn judge_line(line: &[u8]) -> u32
+    requires { ⌜ length (now line) ≤ most-bytes ⌝ }
+    ensures { λ r. ⌜ r ≡ judged-line (pieces tab (now (line .entry))) ⌝ }
 {
     let e = fields::piece_end(line, 0, fields::TAB);
     if fields::name(&line[0..e]) {
         return from_2(line, e);
     }
     1
-}
-
-// "LINE: empty text is line 1 field 1. Otherwise lines in order. A last line without byte 10 gives field 0 before its fields are judged."
-pub fn shape(text: &[u8]) -> Judgement
-    requires { ⌜ length (now text) ≤ 16384 ⌝ }
-    ensures { λ r. ⌜ r ≡ shown (judge-shape (now (text .entry))) ⌝ }
-{
-    if text.len() == 0 {
-        return Judgement::Refused(meaning::LINE, 1, 1);
-    }
-    let mut at: usize = 0;
-    let mut l: u32 = 1;
-    while at < text.len() {
-        let e = fields::piece_end(text, at, fields::LINE_END);
-        if text.len() <= e {
-            return Judgement::Refused(meaning::LINE, l, 0);
-        }
-        let w = wrong_in(&text[at..e]);
-        if w != 0 {
-            return Judgement::Refused(meaning::LINE, l, w);
-        }
-        at = e + 1;
-        l += 1;
-    }
-    Judgement::Passes
 }
 
 // How many symbols a line's body has.
@@ -168,7 +158,7 @@ fn symbols_in(line: &[u8]) -> usize
 
 // "COUNT: .. the 1,025th body symbol."
 fn symbol_count(text: &[u8]) -> Judgement
-    requires { ⌜ length (now text) ≤ 16384 ⌝ }
+    requires { ⌜ length (now text) ≤ most-bytes ⌝ }
     ensures { λ r. ⌜ r ≡ shown (judge-symbols 1 0 (lines (now (text .entry)))) ⌝ }
 {
     let mut at: usize = 0;
@@ -190,20 +180,23 @@ fn symbol_count(text: &[u8]) -> Judgement
     Judgement::Passes
 }
 
-// "COUNT: line 65 field 0; else the 1,025th body symbol."
-pub fn counts(text: &[u8]) -> Judgement
-    requires { ⌜ length (now text) ≤ 16384 ⌝ }
+// "COUNT: line 65 field 0; else the 1,025th body symbol." Lines and body symbols are counted: only a text that is refused is looked at again, for the place.
+pub fn counts(text: &[u8], functions: usize, symbols: usize) -> Judgement
+    requires { ⌜ (length (now text) ≤ most-bytes) × (functions ≡ length (lines (now text))) × (symbols ≡ total (lines (now text))) ⌝ }
     ensures { λ r. ⌜ r ≡ shown (judge-counts (lines (now (text .entry)))) ⌝ }
 {
-    if meaning::MOST_FUNCTIONS < fields::occurrences_of(text, fields::LINE_END) {
+    if meaning::MOST_FUNCTIONS < functions {
         return Judgement::Refused(meaning::COUNT, OVER_FUNCTIONS, 0);
+    }
+    if symbols <= meaning::MOST_SYMBOLS {
+        return Judgement::Passes;
     }
     symbol_count(text)
 }
 
 // The tabs of a line of the right shape.
 pub fn tabs_of(line: &[u8]) -> Tabs
-    requires { ⌜ wrong-field (pieces 9 (now line)) ≡ 0 ⌝ }
+    requires { ⌜ wrong-field (pieces tab (now line)) ≡ 0 ⌝ }
     ensures { λ r. ⌜ Parted (now (line .entry)) (r .name) (r .strict) (r .sorts) (r .result) ⌝ }
 {
     let name = fields::piece_end(line, 0, fields::TAB);
@@ -256,49 +249,93 @@ fn sign(strict: u8, sorts: &[u8], result: u8) -> u32
         + table::STRICT_UNIT * digit_of(strict)
 }
 
-// The signature of a line of the right shape.
-fn line_sign(line: &[u8]) -> u32
-    requires { ⌜ wrong-field (pieces 9 (now line)) ≡ 0 ⌝ }
-    ensures { λ r. ⌜ r ≡ line-signature (line-of (pieces 9 (now (line .entry)))) ⌝ }
+// The signature of a line of the right shape whose name ends at n: the strict count is one byte.
+fn line_sign(line: &[u8], n: usize) -> u32
+    requires { ⌜ (wrong-field (pieces tab (now line)) ≡ 0) × (n ≡ 0 + span tab (drop 0 (now line))) ⌝ }
+    ensures { λ r. ⌜ r ≡ line-signature (line-of (pieces tab (now (line .entry)))) ⌝ }
 {
-    let t = tabs_of(line);
-    let n = t.name;
-    let s = t.strict;
-    let e = t.sorts;
+    let s = n + 2;
     let a = s + 1;
+    let e = fields::piece_end(line, a, fields::TAB);
     sign(line[n + 1], &line[a..e], line[e + 1])
 }
 
-// The name of a line of the right shape, packed.
-fn line_name(line: &[u8]) -> u64
-    requires { ⌜ wrong-field (pieces 9 (now line)) ≡ 0 ⌝ }
-    ensures { λ r. ⌜ r ≡ name-number (line-of (pieces 9 (now (line .entry)))) ⌝ }
+// A name in its place, where the array reaches so far.
+fn put_name(names: &mut [u64], n: usize, name: u64)
+    ensures { λ _. ⌜ now (names .exit) ≡ set (now (names .entry)) n name ⌝ }
 {
-    let e = fields::piece_end(line, 0, fields::TAB);
-    fields::packed_name(&line[0..e])
+    if n < names.len() {
+        names[n] = name;
+    }
 }
 
-// Names and signatures of the functions by line; how many they are.
-pub fn fill_heads(text: &[u8], names: &mut [u64], heads: &mut [u32]) -> usize
-    requires { ⌜ (length (now text) ≤ 16384) × Right (raw-lines (now text)) ⌝ }
-    requires { ⌜ (length (lines (now text)) ≤ length (now names)) × (length (lines (now text)) ≤ length (now heads)) ⌝ }
-    ensures count { λ r. ⌜ r ≡ length (lines (now (text .entry))) ⌝ }
-    ensures names { λ _. ⌜ now (names .exit) ≡ splice (now (names .entry)) 0 (map name-number (lines (now (text .entry)))) ⌝ }
-    ensures heads { λ _. ⌜ now (heads .exit) ≡ splice (now (heads .entry)) 0 (map line-signature (lines (now (text .entry)))) ⌝ }
+// The same of a signature.
+fn put_head(heads: &mut [u32], n: usize, head: u32)
+    ensures { λ _. ⌜ now (heads .exit) ≡ set (now (heads .entry)) n head ⌝ }
 {
+    if n < heads.len() {
+        heads[n] = head;
+    }
+}
+
+// Name and signature of a line of the right shape, the n-th counted from 0.
+fn note(line: &[u8], n: usize, names: &mut [u64], heads: &mut [u32])
+    requires { ⌜ wrong-field (pieces tab (now line)) ≡ 0 ⌝ }
+    ensures names { λ _. ⌜ now (names .exit) ≡ set (now (names .entry)) n (name-number (line-of (pieces tab (now (line .entry))))) ⌝ }
+    ensures heads { λ _. ⌜ now (heads .exit) ≡ set (now (heads .entry)) n (line-signature (line-of (pieces tab (now (line .entry))))) ⌝ }
+{
+    let e = fields::piece_end(line, 0, fields::TAB);
+    put_name(names, n, fields::packed_name(&line[0..e]));
+    put_head(heads, n, line_sign(line, e));
+}
+
+// LINE at a field of line n counted from 0.
+fn misshapen(n: usize, field: u32) -> Scanned
+    requires { ⌜ n ≤ most-bytes ⌝ }
+    ensures { λ r. ⌜ r ≡ misfit (n + 1) field ⌝ }
+{
+    Scanned {
+        number: meaning::LINE,
+        line: narrow(n + 1),
+        field,
+        functions: 0,
+        symbols: 0,
+    }
+}
+
+// "LINE: empty text is line 1 field 1. Otherwise lines in order. A last line without byte 10 gives field 0 before its fields are judged."
+// On the way lines and body symbols are counted, and names and signatures go into the arrays, as far as these reach.
+pub fn scan(text: &[u8], names: &mut [u64], heads: &mut [u32]) -> Scanned
+    requires { ⌜ length (now text) ≤ most-bytes ⌝ }
+    ensures { λ r. ⌜ Scan (now (text .entry)) (now (names .entry)) (now (names .exit)) (now (heads .entry)) (now (heads .exit)) r ⌝ }
+{
+    if text.len() == 0 {
+        return misshapen(0, 1);
+    }
     let mut at: usize = 0;
     let mut n: usize = 0;
+    let mut symbols: usize = 0;
     while at < text.len() {
         let e = fields::piece_end(text, at, fields::LINE_END);
         if text.len() <= e {
-            return n;
+            return misshapen(n, 0);
         }
-        names[n] = line_name(&text[at..e]);
-        heads[n] = line_sign(&text[at..e]);
+        let w = judge_line(&text[at..e]);
+        if w < SOUND {
+            return misshapen(n, w);
+        }
+        note(&text[at..e], n, names, heads);
         at = e + 1;
         n += 1;
+        symbols += (w - SOUND_BODY) as usize;
     }
-    n
+    Scanned {
+        number: meaning::HALT,
+        line: 0,
+        field: 0,
+        functions: n,
+        symbols,
+    }
 }
 
 // Whether a name is one of some.
@@ -317,7 +354,7 @@ fn held(names: &[u64], name: u64) -> bool
 
 // "NAME: field 1 of the first line that repeats an earlier name."
 pub fn repeats(names: &[u64]) -> Judgement
-    requires { ⌜ length (now names) ≤ 64 ⌝ }
+    requires { ⌜ length (now names) ≤ most-functions ⌝ }
     ensures { λ r. ⌜ r ≡ shown (judge-packed 1 [] (now (names .entry))) ⌝ }
 {
     let mut n: usize = 0;

@@ -10,6 +10,7 @@ use lib.Dec.{eqb, leb}
 use lib.ListN.{length, getD, take, drop, replicate, drop-of-length-le}
 use lib.Seq.{drop-cons, take-at}
 use borrow.Author.Tests.{eq-eqb, ne-eqb, le-leb, lt-leb}
+use Rattle.fields.proofs.Laws.{and-false}
 use Rattle.meaning.specs.Basics.{written-over}
 use Rattle.meaning.specs.Arithmetic.{Sort, number, yes-no}
 use Rattle.meaning.specs.Numbers.{most-functions, no, ARGS, ROOM, instruction-words, work-words}
@@ -74,10 +75,6 @@ not-as-many [] [] h = absurd (h refl)
 not-as-many [] (v ∷ vs) h = refl
 not-as-many (s ∷ S) [] h = refl
 not-as-many (s ∷ S) (v ∷ vs) h = rw (not-as-many S vs (λ e. h (ap suc e))) (and-false (fits s v))
-  where
-    and-false : (b : Bool) → (b && false) ≡ false
-    and-false true = refl
-    and-false false = refl
 
 signature-fits : (S : List Sort) (k : ℕ) (r : Sort) (vs : List ℕ) → length S ≤ 8 → fits-signature (signature S k r) vs ≡ all-fit S vs
 unfolding fits-signature

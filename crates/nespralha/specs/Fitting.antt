@@ -8,6 +8,11 @@ use Rattle.meaning.specs.Basics.{if_then_else_}
 use Rattle.meaning.specs.Numbers.{no, ROOM}
 use Rattle.meaning.specs.declared.Checked.{Checked}
 use Rattle.meaning.specs.declared.Answer.{Answer}
+use Rattle.table.specs.Table.{result-unit, sorts-unit, masks}
+
+-- A text of at most so many bytes is read into a short table.
+abbrev pub short-text : ℕ
+short-text = 128
 
 -- A value fits a sort by its number; values fit sorts that are a mask, the first in the lowest bit.
 unfoldable pub fits-sort : ℕ → ℕ → Bool
@@ -19,7 +24,7 @@ masked m (v ∷ vs) = fits-sort (m % 2) v && masked (m / 2) vs
 
 -- The values fit a function of this signature: as many as it takes, each fitting its sort.
 unfoldable pub fits-signature : ℕ → List ℕ → Bool
-fits-signature g vs = eqb (length vs) (g % 16) && masked (g / 32 % 256) vs
+fits-signature g vs = eqb (length vs) (g % result-unit) && masked (g / sorts-unit % masks) vs
 
 abbrev pub no-room : Checked
 no-room = record { number = no ROOM; line = 0; field = 0; functions = 0; instructions = 0 }

@@ -17,7 +17,7 @@ use Rattle.meaning.specs.Terms.{is-decimal}
 use Rattle.meaning.specs.Program.{malformed, order, are-decimals, is-first-line, limit-and-arguments, ordered, order-of}
 use Rattle.fields.specs.Fields.{span, rest, decimal-of}
 use Rattle.fields.specs.declared.Decimal.the-variants.{Not, Value}
-use Rattle.fields.proofs.Laws.{first-piece, next-piece, no-piece}
+use Rattle.fields.proofs.Laws.{and-false, first-piece, next-piece, no-piece}
 use Rattle.order.specs.Asked.{arguments-from, Told, Line, Asks}
 use Rattle.order.specs.declared.Asked.{Asked}
 
@@ -86,10 +86,6 @@ line-some line e text v r q d h =
     rw first-piece (simp (w .0, w .1) (rw k at h))
 
 -- All arguments of a line at once.
-and-false : (b : Bool) → (b && false) ≡ false
-and-false true = refl
-and-false false = refl
-
 pub arguments-are : (vs : List ℕ) (fs : List Field) → length vs ≤ 8 → arguments-from vs fs ≡ (if leb (length vs + length fs) 8 && are-decimals fs then some (vs ++ map value fs) else none)
 unfolding arguments-from are-decimals
 arguments-are vs [] h = simp (append-nil, le-leb (length vs + 0) 8 (omega arith))

@@ -1,4 +1,4 @@
--- Laws of Check's core: the initial term, the order of refusals, and the table of an accepted text. Assumes nothing.
+-- Laws of Check's core: the initial term, the order of refusals, arrays that fit, and the table of an accepted text. Assumes nothing.
 use mathlib.Core.Path.{_≡_, refl, ap, sym, _∙_, subst}
 use mathlib.Core.Bool.{Bool, true, false}
 use mathlib.Core.List.{List, [], _∷_, _++_, map, map-append, append-assoc, append-nil}
@@ -21,17 +21,18 @@ use Rattle.fields.specs.Fields.{span, packed}
 use Rattle.fields.proofs.Laws.{packed-same}
 use Rattle.symbols.proofs.Names.{Names, Name}
 use Rattle.lines.specs.Splice.{splice}
-use Rattle.lines.specs.Lines.{shown, Right, raw-lines, name-number, line-signature, is-held, judge-packed}
+use Rattle.lines.specs.Lines.{shown, judgement, Right, raw-lines, total, name-number, line-signature, Scan, is-held, judge-packed}
+use Rattle.lines.specs.declared.Scanned.{Scanned}
 use Rattle.lines.specs.declared.Judgement.{Judgement}
 use Rattle.lines.specs.declared.Judgement.the-variants.{Passes, Refused}
 use Rattle.lines.proofs.Splice.{splice-more, splice-set, take-splice}
-use Rattle.lines.proofs.Laws.{shape-some, shape-none, shape-open, more-lines, lines-raw}
+use Rattle.lines.proofs.Laws.{shape-some, shape-none, shape-open, more-lines, lines-raw, total-within}
 use Rattle.table.proofs.Signatures.{signature-count}
-use Rattle.bodies.specs.Bodies.{Formed, total, Finishes}
+use Rattle.bodies.specs.Bodies.{Formed, Finishes}
 use Rattle.bodies.specs.declared.Finished.{Finished}
 use Rattle.bodies.specs.declared.Finished.the-variants as finished
 use Rattle.bodies.proofs.Laws.{formed-lines, formed-names, names-packed}
-use Rattle.reading.specs.Reading.{refusal, acceptance, after-names, after-counts, after-shape, upto, zeros, Outcome}
+use Rattle.reading.specs.Reading.{refusal, acceptance, after-names, after-counts, after-shape, upto, zeros, Outcome, Counted, initial-room, Fit, Noted}
 use Rattle.reading.proofs.Programs.{Of, of-bodies, sizes-of, of-length, of-signatures, initial-words, initial-values, initial-size, initial-ends, translation-length}
 
 -- The initial term's arguments, one after the other.
@@ -185,8 +186,55 @@ lifted w v e h b n Q k =
 pub lift-heads : (w v e h b : List ℕ) (n : ℕ) (r : Checked) (verdict : Verdict Program) → Outcome verdict w v e (take (n - 0) (drop 0 h)) b r → Outcome verdict w v e h b r
 lift-heads w v e h b n r verdict o = record { answer = o .answer; table = λ Q x. lifted w v e h b n Q (o .table Q x) }
 
-pub first-part : (M xs : List ℕ) (n : ℕ) (M1 : List ℕ) → M1 ≡ splice M 0 xs → n ≡ length xs → take (n - 0) (drop 0 M1) ≡ xs
-first-part M xs n M1 x y = let e : n - 0 ≡ n = omega arith in rw (e, x) (take-splice M n xs (sym y))
+-- The arrays once the text has been scanned: those that were long enough are, and begin with names and signatures.
+module _ (t N N1 H H1 : List ℕ) (s : Scanned) (c : Scan t N N1 H H1 s) (z : s .number ≡ 0) (x : length N1 ≡ length N) (y : length H1 ≡ length H) where
+  pub noted : Noted (lines t) N1 H1
+  noted =
+      record {
+        names-noted = λ m. ap (take (length (lines t))) (c .names-filled z (omega (arith, m, x))) ∙ take-splice N (length (lines t)) (map name-number (lines t)) (length-map (lines t) name-number);
+        heads-noted = λ m. ap (take (length (lines t))) (c .heads-filled z (omega (arith, m, y))) ∙ take-splice H (length (lines t)) (map line-signature (lines t)) (length-map (lines t) line-signature);
+      }
+
+  pub still-fit : (b w v e : List ℕ) → Fit t N H b w v e → Fit t N1 H1 b w v e
+  still-fit b w v e f = record { names-fit = λ k. omega (arith, f .names-fit k, x); heads-fit = λ k. omega (arith, f .heads-fit k, y); room = f .room }
+
+  pub shape-passes : judge-shape t ≡ fine tt
+  unfolding judgement
+  shape-passes = passes-fine (judge-shape t) (judgement (s .number) (s .line) (s .field)) (c .shape-judged) (rw z)
+
+not-zero : (n l k : ℕ) → (n ≡ 0 → ⊥) → Refused n l k ≡ judgement n l k
+unfolding judgement
+not-zero zero l k z = absurd (z refl)
+not-zero (suc n) l k z = refl
+
+pub shape-refused : (t N N1 H H1 : List ℕ) (s : Scanned) → Scan t N N1 H H1 s → (s .number ≡ 0 → ⊥) → Refused (s .number) (s .line) (s .field) ≡ shown (judge-shape t)
+shape-refused t N N1 H H1 s c z = not-zero (s .number) (s .line) (s .field) z ∙ c .shape-judged
+
+module _ (L : List Line) (N H : List ℕ) (k : Noted L N H) (n : ℕ) (e : n ≡ length L) where
+  first-of : (M xs : List ℕ) → take (length L) M ≡ xs → take (n - 0) (drop 0 M) ≡ xs
+  first-of M xs x = let d : n - 0 ≡ length L = omega arith in rw d x
+
+  pub names-part : length L ≤ length N → take (n - 0) (drop 0 N) ≡ map name-number L
+  names-part m = first-of N (map name-number L) (k .names-noted m)
+
+  pub heads-part : length L ≤ length H → take (n - 0) (drop 0 H) ≡ map line-signature L
+  heads-part m = first-of H (map line-signature L) (k .heads-noted m)
+
+-- Arrays that fit. Those of 64 and 1,034 elements fit every text; a text has no more symbols than bytes.
+module _ (t N H b w v e : List ℕ) (names : 64 ≤ length N) (heads : 64 ≤ length H) (bodies : 64 ≤ length b) where
+  fits-by : (Counted (lines t) → (total (lines t) + initial-room ≤ length w) × (total (lines t) + initial-room ≤ length v) × (total (lines t) + initial-room ≤ length e)) → Fit t N H b w v e
+  fits-by f =
+      record {
+        names-fit = λ k. omega (arith, k .0, names);
+        heads-fit = λ k. omega (arith, k .0, heads);
+        room = λ k. record { bodies-fit = omega (arith, k .0, bodies); words-fit = f k .0; values-fit = f k .1; ends-fit = f k .2 };
+      }
+
+  pub fits-any : 1034 ≤ length w → 1034 ≤ length v → 1034 ≤ length e → Fit t N H b w v e
+  fits-any x y z = fits-by (λ k. (omega (arith, k .1, x), omega (arith, k .1, y), omega (arith, k .1, z)))
+
+  pub fits-short : (n : ℕ) → length t ≤ n → n + 10 ≤ length w → n + 10 ≤ length v → n + 10 ≤ length e → Fit t N H b w v e
+  fits-short n m x y z = fits-by (λ k. (omega (arith, total-within t, m, x), omega (arith, total-within t, m, y), omega (arith, total-within t, m, z)))
 
 -- The table of an accepted text.
 

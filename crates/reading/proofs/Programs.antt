@@ -8,10 +8,9 @@ use Rattle.meaning.specs.Text.{Line, Verdict, fine, refused, _>>=_}
 use Rattle.meaning.specs.Terms.{Term, arg, op, cond, call, Terms, nil, cons, Symbol, symbol, Read, got, fault, Function, Program, nothing-after, read-body, function-of, read-bodies}
 use Rattle.meaning.specs.Code.{size, sizes, own, initial, bodies-size, row-entrance, code, strict-code, waiting-code, bodies-code, body-entrances, translation, ret-address, RET}
 use Rattle.table.specs.Table.{term-words, row-words, term-values, row-values, term-ends, row-ends, signatures}
-use Rattle.lines.specs.Lines.{line-signature}
+use Rattle.lines.specs.Lines.{total, line-signature}
 use Rattle.meaning.specs.Numbers.{most-depth}
 use Rattle.terms.proofs.Flat.{term-symbols, symbol-count, Taken, taken-term}
-use Rattle.bodies.specs.Bodies.{total}
 use Rattle.reading.specs.Reading.{upto, zeros}
 
 -- Heads.

@@ -1,14 +1,15 @@
 -- What Check's core answers, and what the lent arrays hold where a text is accepted. Assumes nothing.
 use mathlib.Core.Path.{_≡_}
 use mathlib.Core.List.{List, [], _∷_, map}
-use Prim.Native.Nat.{ℕ, zero, suc, _≤_}
-use lib.ListN.{length}
-use Rattle.meaning.specs.Numbers.{no, HALT}
-use Rattle.meaning.specs.Text.{Verdict, fine, refused, _>>_, judge-counts, judge-names, lines}
+use Prim.Native.Nat.{ℕ, zero, suc, _+_, _≤_}
+use lib.ListN.{length, take}
+use Rattle.meaning.specs.Numbers.{no, HALT, most-functions, most-symbols, most-arguments}
+use Rattle.meaning.specs.Text.{Line, Verdict, fine, _>>_, judge-counts, judge-names, lines}
 use Rattle.meaning.specs.Terms.{Program, read-bodies}
 use Rattle.meaning.specs.Answers.{checked}
 use Rattle.meaning.specs.declared.Checked.{Checked}
 use Rattle.table.specs.Table.{Holds}
+use Rattle.lines.specs.Lines.{total, name-number, line-signature}
 
 unfoldable pub refusal : ℕ → ℕ → ℕ → Checked
 refusal n l k = record { number = n; line = l; field = k; functions = 0; instructions = 0 }
@@ -35,12 +36,31 @@ unfoldable pub zeros : ℕ → List ℕ
 zeros zero = []
 zeros (suc n) = 0 ∷ zeros n
 
--- The lent arrays are long enough for every text that is accepted.
-pub record Fit (bodies words values ends : List ℕ) : Type 0 where
-  pub bodies-fit : 64 ≤ length bodies
-  pub words-fit : 1034 ≤ length words
-  pub values-fit : 1034 ≤ length values
-  pub ends-fit : 1034 ≤ length ends
+-- The counts of these lines pass.
+abbrev pub Counted : List Line → Type 0
+Counted L = (length L ≤ most-functions) × (total L ≤ most-symbols)
+
+-- Room beside the bodies' symbols: for the initial term, which has one symbol more than arguments, and a word to spare, for RET.
+abbrev pub initial-room : ℕ
+initial-room = most-arguments + 2
+
+-- Arrays in which the table of these lines has room.
+pub record Room (L : List Line) (bodies words values ends : List ℕ) : Type 0 where
+  pub bodies-fit : length L ≤ length bodies
+  pub words-fit : total L + initial-room ≤ length words
+  pub values-fit : total L + initial-room ≤ length values
+  pub ends-fit : total L + initial-room ≤ length ends
+
+-- The lent arrays are long enough for a text, if its counts pass.
+pub record Fit (text names heads bodies words values ends : List ℕ) : Type 0 where
+  pub names-fit : Counted (lines text) → length (lines text) ≤ length names
+  pub heads-fit : Counted (lines text) → length (lines text) ≤ length heads
+  pub room : Counted (lines text) → Room (lines text) bodies words values ends
+
+-- Arrays that begin with the names and signatures of these lines, if they are long enough.
+pub record Noted (L : List Line) (names heads : List ℕ) : Type 0 where
+  pub names-noted : length L ≤ length names → take (length L) names ≡ map name-number L
+  pub heads-noted : length L ≤ length heads → take (length L) heads ≡ map line-signature L
 
 -- The answer is the verdict's, and on acceptance the arrays hold the program's table.
 pub record Outcome (verdict : Verdict Program) (words values ends heads bodies : List ℕ) (r : Checked) : Type 0 where

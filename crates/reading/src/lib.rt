@@ -5,20 +5,23 @@ use lines::Judgement;
 use meaning::Checked;
 ghost use mathlib.Core.Path.{_≡_};
 ghost use mathlib.Core.List.{map, _∷_};
-ghost use Prim.Native.Nat.{ℕ, _+_, _%_, _≤_, _<_};
+ghost use Prim.Native.Nat.{_+_, _%_, _≤_, _<_};
 ghost use lib.ListN.{length};
+ghost use Rattle.meaning.specs.Numbers.{most-bytes, most-functions, most-symbols};
 ghost use Rattle.meaning.specs.Text.{fine, judge-shape, lines};
 ghost use Rattle.meaning.specs.Terms.{Program};
 ghost use Rattle.meaning.specs.Check.{check};
 ghost use Rattle.meaning.specs.Answers.{checked};
 ghost use Rattle.table.specs.Table.{Holds};
 ghost use Rattle.lines.specs.Splice.{splice};
-ghost use Rattle.lines.specs.Lines.{Right, raw-lines, name-number, line-signature};
-ghost use Rattle.bodies.specs.Bodies.{total};
-ghost use Rattle.reading.specs.Reading.{refusal, acceptance, upto, zeros, after-shape, after-counts, after-names, Outcome, Fit};
+ghost use Rattle.lines.specs.Lines.{Right, raw-lines, total, name-number, line-signature};
+ghost use Rattle.reading.specs.Reading.{refusal, acceptance, upto, zeros, after-shape, after-counts, after-names, Outcome, Room, Fit, Noted};
 
-// How long the lent arrays of symbols are at least: the initial term has nine symbols at most; one word is to spare, for RET.
-pub const TABLE_SYMBOLS: usize = meaning::MOST_SYMBOLS + meaning::MOST_ARGUMENTS + 2;
+// Room beside the bodies' symbols: the initial term has nine symbols at most; one word is to spare, for RET.
+pub const INITIAL_ROOM: usize = meaning::MOST_ARGUMENTS + 2;
+
+// Arrays of symbols of this length fit every text.
+pub const TABLE_SYMBOLS: usize = meaning::MOST_SYMBOLS + INITIAL_ROOM;
 
 fn narrow(x: usize) -> u32
     requires { ⌜ x < 4294967296 ⌝ }
@@ -41,7 +44,7 @@ fn refused(number: u32, line: u32, field: u32) -> Checked
 
 // The last instruction is RET.
 fn accepted(functions: usize, end: usize) -> Checked
-    requires { ⌜ (functions ≤ 64) × (end ≤ 2048) ⌝ }
+    requires { ⌜ (functions ≤ most-functions) × (end ≤ 2048) ⌝ }
     ensures { λ r. ⌜ r ≡ acceptance functions (end + 1) ⌝ }
 {
     Checked {
@@ -55,7 +58,7 @@ fn accepted(functions: usize, end: usize) -> Checked
 
 // The n arguments that the initial term's function is applied to: from address 1 on.
 fn fill_own(n: usize, words: &mut [u32], values: &mut [u32], ends: &mut [u32])
-    requires { ⌜ (n < 16) × (16 ≤ length (now words)) × (16 ≤ length (now values)) × (16 ≤ length (now ends)) ⌝ }
+    requires { ⌜ (n < 16) × (n < length (now words)) × (n < length (now values)) × (n < length (now ends)) ⌝ }
     ensures words { λ _. ⌜ now (words .exit) ≡ splice (now (words .entry)) 1 (upto n 1) ⌝ }
     ensures values { λ _. ⌜ now (values .exit) ≡ splice (now (values .entry)) 1 (zeros n) ⌝ }
     ensures ends { λ _. ⌜ now (ends .exit) ≡ splice (now (ends .entry)) 1 (upto n 2) ⌝ }
@@ -71,7 +74,7 @@ fn fill_own(n: usize, words: &mut [u32], values: &mut [u32], ends: &mut [u32])
 
 // "The initial term is the entry applied to its own arguments": the address after it.
 fn initial(own: u32, words: &mut [u32], values: &mut [u32], ends: &mut [u32]) -> usize
-    requires { ⌜ (16 ≤ length (now words)) × (16 ≤ length (now values)) × (16 ≤ length (now ends)) ⌝ }
+    requires { ⌜ (own % 16 < length (now words)) × (own % 16 < length (now values)) × (own % 16 < length (now ends)) ⌝ }
     ensures place { λ r. ⌜ r ≡ own % 16 + 1 ⌝ }
     ensures words { λ _. ⌜ now (words .exit) ≡ splice (now (words .entry)) 0 (32 ∷ upto (own % 16) 1) ⌝ }
     ensures values { λ _. ⌜ now (values .exit) ≡ splice (now (values .entry)) 0 (0 ∷ zeros (own % 16)) ⌝ }
@@ -95,9 +98,9 @@ fn read_named(
     values: &mut [u32],
     ends: &mut [u32],
 ) -> Checked
-    requires { ⌜ (length (now text) ≤ 16384) × Right (raw-lines (now text)) × (0 < length (lines (now text))) × (length (lines (now text)) ≤ 64) × (total (lines (now text)) ≤ 1024) ⌝ }
+    requires { ⌜ (length (now text) ≤ most-bytes) × Right (raw-lines (now text)) × (0 < length (lines (now text))) × (length (lines (now text)) ≤ most-functions) × (total (lines (now text)) ≤ most-symbols) ⌝ }
     requires { ⌜ (now names ≡ map name-number (lines (now text))) × (now heads ≡ map line-signature (lines (now text))) ⌝ }
-    requires { ⌜ Fit (now bodies) (now words) (now values) (now ends) ⌝ }
+    requires { ⌜ Room (lines (now text)) (now bodies) (now words) (now values) (now ends) ⌝ }
     ensures { λ r. ⌜ Outcome (after-names (now (text .entry))) (now (words .exit)) (now (values .exit)) (now (ends .exit)) (now (heads .entry)) (now (bodies .exit)) r ⌝ }
 {
     let first = initial(heads[0], words, values, ends);
@@ -107,51 +110,53 @@ fn read_named(
     }
 }
 
-// A text whose shape and counts pass: names and signatures, then the bodies.
+// A text whose shape and counts pass, with the names and signatures of its lines.
 fn read_counted(
     text: &[u8],
-    names: &mut [u64],
-    heads: &mut [u32],
+    names: &[u64],
+    heads: &[u32],
     bodies: &mut [u32],
     words: &mut [u32],
     values: &mut [u32],
     ends: &mut [u32],
 ) -> Checked
-    requires { ⌜ (length (now text) ≤ 16384) × Right (raw-lines (now text)) × (0 < length (lines (now text))) × (length (lines (now text)) ≤ 64) × (total (lines (now text)) ≤ 1024) ⌝ }
-    requires { ⌜ (64 ≤ length (now names)) × (64 ≤ length (now heads)) × Fit (now bodies) (now words) (now values) (now ends) ⌝ }
-    ensures { λ r. ⌜ Outcome (after-counts (now (text .entry))) (now (words .exit)) (now (values .exit)) (now (ends .exit)) (now (heads .exit)) (now (bodies .exit)) r ⌝ }
+    requires { ⌜ (length (now text) ≤ most-bytes) × Right (raw-lines (now text)) × (0 < length (lines (now text))) × (length (lines (now text)) ≤ most-functions) × (total (lines (now text)) ≤ most-symbols) ⌝ }
+    requires { ⌜ (now names ≡ map name-number (lines (now text))) × (now heads ≡ map line-signature (lines (now text))) ⌝ }
+    requires { ⌜ Room (lines (now text)) (now bodies) (now words) (now values) (now ends) ⌝ }
+    ensures { λ r. ⌜ Outcome (after-counts (now (text .entry))) (now (words .exit)) (now (values .exit)) (now (ends .exit)) (now (heads .entry)) (now (bodies .exit)) r ⌝ }
 {
-    let n = lines::fill_heads(text, names, heads);
-    match lines::repeats(&names[0..n]) {
-        Judgement::Passes => read_named(
+    match lines::repeats(names) {
+        Judgement::Passes => read_named(text, names, heads, bodies, words, values, ends),
+        Judgement::Refused(number, line, field) => refused(number, line, field),
+    }
+}
+
+// A text whose shape passes, with its counts, and arrays that begin with the names and signatures of its lines if they reach so far.
+fn read_shaped(
+    text: &[u8],
+    functions: usize,
+    symbols: usize,
+    names: &[u64],
+    heads: &[u32],
+    bodies: &mut [u32],
+    words: &mut [u32],
+    values: &mut [u32],
+    ends: &mut [u32],
+) -> Checked
+    requires { ⌜ (length (now text) ≤ most-bytes) × (judge-shape (now text) ≡ fine tt) × (functions ≡ length (lines (now text))) × (symbols ≡ total (lines (now text))) ⌝ }
+    requires { ⌜ Noted (lines (now text)) (now names) (now heads) × Fit (now text) (now names) (now heads) (now bodies) (now words) (now values) (now ends) ⌝ }
+    ensures { λ r. ⌜ Outcome (after-shape (now (text .entry))) (now (words .exit)) (now (values .exit)) (now (ends .exit)) (now (heads .entry)) (now (bodies .exit)) r ⌝ }
+{
+    match lines::counts(text, functions, symbols) {
+        Judgement::Passes => read_counted(
             text,
-            &names[0..n],
-            &heads[0..n],
+            &names[0..functions],
+            &heads[0..functions],
             bodies,
             words,
             values,
             ends,
         ),
-        Judgement::Refused(number, line, field) => refused(number, line, field),
-    }
-}
-
-// A text whose shape passes.
-fn read_shaped(
-    text: &[u8],
-    names: &mut [u64],
-    heads: &mut [u32],
-    bodies: &mut [u32],
-    words: &mut [u32],
-    values: &mut [u32],
-    ends: &mut [u32],
-) -> Checked
-    requires { ⌜ (length (now text) ≤ 16384) × (judge-shape (now text) ≡ fine tt) ⌝ }
-    requires { ⌜ (64 ≤ length (now names)) × (64 ≤ length (now heads)) × Fit (now bodies) (now words) (now values) (now ends) ⌝ }
-    ensures { λ r. ⌜ Outcome (after-shape (now (text .entry))) (now (words .exit)) (now (values .exit)) (now (ends .exit)) (now (heads .exit)) (now (bodies .exit)) r ⌝ }
-{
-    match lines::counts(text) {
-        Judgement::Passes => read_counted(text, names, heads, bodies, words, values, ends),
         Judgement::Refused(number, line, field) => refused(number, line, field),
     }
 }
@@ -166,15 +171,26 @@ pub fn read(
     values: &mut [u32],
     ends: &mut [u32],
 ) -> Checked
-    requires { ⌜ (64 ≤ length (now names)) × (64 ≤ length (now heads)) × Fit (now bodies) (now words) (now values) (now ends) ⌝ }
+    requires { ⌜ Fit (now text) (now names) (now heads) (now bodies) (now words) (now values) (now ends) ⌝ }
     ensures answer { λ r. ⌜ r ≡ checked (check (now (text .entry))) ⌝ }
     ensures table { λ _. ⌜ ((P : Program) → check (now (text .entry)) ≡ fine P → Holds P (now (words .exit)) (now (values .exit)) (now (ends .exit)) (now (heads .exit)) (now (bodies .exit))) ⌝ }
 {
     if meaning::MOST_BYTES < text.len() {
         return refused(meaning::LONG, 0, 0);
     }
-    match lines::shape(text) {
-        Judgement::Passes => read_shaped(text, names, heads, bodies, words, values, ends),
-        Judgement::Refused(number, line, field) => refused(number, line, field),
+    let s = lines::scan(text, names, heads);
+    if s.number != meaning::HALT {
+        return refused(s.number, s.line, s.field);
     }
+    read_shaped(
+        text,
+        s.functions,
+        s.symbols,
+        names,
+        heads,
+        bodies,
+        words,
+        values,
+        ends,
+    )
 }

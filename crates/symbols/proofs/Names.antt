@@ -2,29 +2,21 @@
 use mathlib.Core.Path.{_≡_, refl, ap, sym, _∙_}
 use mathlib.Core.List.{List, [], _∷_, map}
 use mathlib.Core.Bool.{Bool, true, false, _&&_, _||_}
-use Prim.Native.Nat.{ℕ, zero, suc, _+_, _-_, _*_, _<_, _≤_}
+use Prim.Native.Nat.{ℕ, suc, _+_, _<_, _≤_}
 use native.Mathlib.Omega.{arith}
 use lib.Dec.{ltb, leb, eqb}
-use lib.ListN.{length, getD, length-map}
-use borrow.Author.Tests.{lt-ltb, le-ltb, eq-eqb, ne-eqb, ltb-true, ltb-false, leb-true, leb-false, eqb-true, eqb-false}
+use lib.ListN.{length, getD}
+use borrow.Author.Tests.{ne-eqb, ltb-true, leb-true}
 use Rattle.meaning.specs.Basics.{if_then_else_, all, between, bytes}
 use Rattle.meaning.specs.Arithmetic.{number, yes-no, constant}
 use Rattle.meaning.specs.Text.{Field, same, value, is-name, is-visible, is-capital, is-digit}
-use Rattle.meaning.specs.Terms.{Symbol as Means, argument, operation, condition, function, unknown, Word, vocabulary, spelt-in, named, is-decimal, symbol}
+use Rattle.meaning.specs.Terms.{Symbol as Means, operation, condition, function, unknown, Word, vocabulary, spelt-in, named, is-decimal, symbol}
 use Rattle.table.specs.Table.{symbol-word, op-word}
 use Rattle.fields.specs.Fields.{packed, is-name-byte}
-use Rattle.fields.proofs.Laws.{Bytes, packed-same}
+use Rattle.fields.proofs.Laws.{and-false, and-left, and-right, Bytes, packed-same}
 use Rattle.symbols.specs.Symbols.{Named, Spelt, All-spelt, named-as, short-word, one-byte-symbol, decimal-or, some-bytes-symbol, symbol-by}
 
 -- Tests.
-
-pub and-left : (a b : Bool) → a && b ≡ true → a ≡ true
-and-left true b e = refl
-and-left false b e = e
-
-pub and-right : (a b : Bool) → a && b ≡ true → b ≡ true
-and-right true b e = e
-and-right false b e = let z : _≡_ {A = ℕ} 0 1 = cc in absurd (omega arith)
 
 -- Names and visible fields are made of bytes from 1 to 255.
 
@@ -78,10 +70,6 @@ pub named-packed : (i : ℕ) (N : List Field) (f : Field) → Names N → Bytes 
 unfolding named-as named Names
 named-packed i [] f p q = refl
 named-packed i (n ∷ N) f p q = rw (← packed-same f n q (p .0 .made-of), named-packed (i + 1) N f (p .1) q)
-
-and-false : (t : Bool) → t && false ≡ false
-and-false true = refl
-and-false false = refl
 
 other-lengths : (f g : Field) → (length f ≡ length g → ⊥) → same f g ≡ false
 unfolding same

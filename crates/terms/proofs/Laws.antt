@@ -8,6 +8,7 @@ use native.Mathlib.Numerals.{add-one, sub-one}
 use lib.ListN.{length, getD, drop, set, length-drop, length-append, length-map, drop-of-length-le}
 use lib.Seq.{drop-cons, drop-at, drop-drop}
 use lib.Dec.{ltb, eqb}
+use borrow.Author.Tests.{lt-ltb, le-ltb, ltb-true, ltb-false}
 use Rattle.meaning.specs.Basics.{if_then_else_}
 use Rattle.meaning.specs.Numbers.{most-depth}
 use Rattle.meaning.specs.Arithmetic.{Sort}
@@ -20,24 +21,41 @@ use Rattle.table.specs.Table.{symbol-word, term-ends, row-ends, mask}
 use Rattle.symbols.specs.Symbols.{Spelt, All-spelt}
 use Rattle.lines.specs.Splice.{splice}
 use Rattle.lines.proofs.Splice.{splice-none, splice-more, splice-head}
-use Rattle.terms.specs.Terms.{shown-wrong, shown-takes, signed-by, argument-by, function-by, operations, takes-by, World, Symbols, Said, Saids, Told, Tolds, Whole, Within}
-use Rattle.terms.specs.declared.Wrong.{Wrong}
-use Rattle.terms.specs.declared.Wrong.the-variants.{UnknownSymbol, OtherSort, EarlyEnd, LeftOver, TooDeep}
+use Rattle.terms.specs.Terms.{wrong-code, Reached, Next, Fault, faults, reached, shown-takes, signed-by, argument-by, function-by, operations, takes-by, World, Symbols, Said, Saids, Told, Tolds, Whole, Within}
 use Rattle.terms.specs.declared.Takes.{Takes}
 use Rattle.terms.specs.declared.Takes.the-variants.{Args, Cannot}
-use Rattle.terms.specs.declared.Reached.{Reached}
-use Rattle.terms.specs.declared.Reached.the-variants.{Next, Fault}
 use Rattle.terms.proofs.Flat.{term-symbols, map-append, symbol-count, end-count, size-one, Applies, Node, node, takes-applies, sorted, Taken, Takens, taken-term, taken-terms}
 use Rattle.table.proofs.Signatures.{sort-small}
 use Rattle.terms.proofs.Judged.{judged}
 
 -- Answers.
 
-pub clash : {A : Type 0} {r : Reached} {w : Wrong} {p n : ℕ} → r ≡ Fault w p → r ≡ Next n → A
+pub clash : {A : Type 0} {r : Reached} {w p n : ℕ} → r ≡ Fault w p → r ≡ Next n → A
 clash p q = let z : _≡_ {A = ℕ} 0 1 = cc in absurd (omega arith)
 
-next-is : {r : Reached} {n m : ℕ} → r ≡ Next n → r ≡ Next m → m ≡ n
+pub next-is : {r : Reached} {n m : ℕ} → r ≡ Next n → r ≡ Next m → m ≡ n
 next-is p q = cc
+
+-- What a number says.
+
+pub says-next : (r : ℕ) → r < faults → reached r ≡ Next r
+unfolding reached
+says-next r h = rw (lt-ltb r faults h)
+
+pub says-fault : (r : ℕ) → faults ≤ r → reached r ≡ Fault (r / faults) (r % faults)
+unfolding reached
+says-fault r h = rw (le-ltb r faults h)
+
+pub fault-said : (w p r : ℕ) → 0 < w → p < faults → r ≡ faults * w + p → reached r ≡ Fault w p
+fault-said w p r h l e =
+    let x : r / faults ≡ w = omega (arith, e, l) in
+    let y : r % faults ≡ p = omega (arith, e, l) in
+    says-fault r (omega (arith, e, h)) ∙ rw (x, y)
+
+-- A place that a number says is that number.
+only-next : (n r : ℕ) (b : Bool) → ltb r faults ≡ b → reached r ≡ Next n → r ≡ n
+only-next n r true e q = next-is q (says-next r (ltb-true r faults e))
+only-next n r false e q = clash (says-fault r (ltb-false r faults e)) q
 
 -- The symbols from a place on.
 
@@ -78,8 +96,8 @@ unfolding read-row Saids sizes row-ends
 no-args W H own at d e w [] ys p = (ap Next (omega arith), splice-none e at)
 no-args W H own at d e w (s ∷ S) ys p = absurd (omega (arith, p))
 
-pub args-none : (W H : List ℕ) (own at d n m : ℕ) (e : List ℕ) → n ≡ 0 → Tolds W H own at d n m e e (Next at)
-args-none W H own at d n m e z = record { tolds = λ w S ys p q h. no-args W H own at d e w S ys (sym z ∙ p) }
+pub args-none : (W H : List ℕ) (own at d n m : ℕ) (e : List ℕ) (r : Reached) → n ≡ 0 → r ≡ Next at → Tolds W H own at d n m e e r
+args-none W H own at d n m e r z x = record { tolds = λ w S ys p q h. rw x (no-args W H own at d e w S ys (sym z ∙ p)) }
 
 more-join : (W e e1 e2 : List ℕ) (at next : ℕ) (t : Term) (r : Reached) (R : Read Terms) → next ≡ at + size t → e1 ≡ splice e at (term-ends t at) → at ≤ length e →
     Saids W next e1 e2 R r → Saids W at e e2 (and-more t R) r
@@ -119,43 +137,43 @@ pub args-more : (W H : List ℕ) (own at d n m next : ℕ) (e e1 e2 : List ℕ) 
 args-more W H own at d n m next e e1 e2 r1 r2 l z p q k =
     record { tolds = λ w S ys x y h. args-step W H own at d n m next e e1 e2 r1 r2 w S ys l z p q k x y h }
 
-fault-by : (W e e1 : List ℕ) (at p : ℕ) (v : Wrong) (r : Reached) (R : Read Term) (F : List Symbol → Read Terms) → Said W at e e1 R r → r ≡ Fault v p → Saids W at e e1 (then-more R F) (Fault v p)
+fault-by : (W e e1 : List ℕ) (at p v : ℕ) (r : Reached) (R : Read Term) (F : List Symbol → Read Terms) → Said W at e e1 R r → r ≡ Fault v p → Saids W at e e1 (then-more R F) r
 unfolding Said Saids then-more
-fault-by W e e1 at p v r (fault w zs) F x y = sym y ∙ x
+fault-by W e e1 at p v r (fault w zs) F x y = x
 fault-by W e e1 at p v r (got t zs) F x y = clash y (x .0)
 
-args-stop : (W H : List ℕ) (own at d n m p : ℕ) (v : Wrong) (e e1 : List ℕ) (r : Reached) (w : World H own) (S : List Sort) (ys : List Symbol) → (n ≡ 0 → ⊥) →
-    Told W H own at d (m % 2) e e1 r → r ≡ Fault v p → n ≡ length S → m ≡ mask S → Symbols W at ys → Saids W at e e1 (read-row (read-term (w .functions) (w .arguments) d) S ys) (Fault v p)
+args-stop : (W H : List ℕ) (own at d n m p v : ℕ) (e e1 : List ℕ) (r : Reached) (w : World H own) (S : List Sort) (ys : List Symbol) → (n ≡ 0 → ⊥) →
+    Told W H own at d (m % 2) e e1 r → r ≡ Fault v p → n ≡ length S → m ≡ mask S → Symbols W at ys → Saids W at e e1 (read-row (read-term (w .functions) (w .arguments) d) S ys) r
 unfolding read-row mask
 args-stop W H own at d n m p v e e1 r w [] ys z x y a b h = absurd (z a)
 args-stop W H own at d n m p v e e1 r w (s ∷ S) ys z x y a b h =
     fault-by W e e1 at p v r (read-term (w .functions) (w .arguments) d s ys) (read-row (read-term (w .functions) (w .arguments) d) S) (x .told w s ys (omega (arith, b, sort-small s)) h) y
 
-pub args-fault : (W H : List ℕ) (own at d n m p : ℕ) (v : Wrong) (e e1 : List ℕ) (r : Reached) → (n ≡ 0 → ⊥) → Told W H own at d (m % 2) e e1 r → r ≡ Fault v p → Tolds W H own at d n m e e1 (Fault v p)
+pub args-fault : (W H : List ℕ) (own at d n m p v : ℕ) (e e1 : List ℕ) (r : Reached) → (n ≡ 0 → ⊥) → Told W H own at d (m % 2) e e1 r → r ≡ Fault v p → Tolds W H own at d n m e e1 r
 args-fault W H own at d n m p v e e1 r z x y = record { tolds = λ w S ys a b h. args-stop W H own at d n m p v e e1 r w S ys z x y a b h }
 
 -- Terms.
 
-early : (W H : List ℕ) (own at d : ℕ) (e e1 : List ℕ) (w : World H own) (s : Sort) (ys : List Symbol) → length W ≤ at → Symbols W at ys → Said W at e e1 (read-term (w .functions) (w .arguments) d s ys) (Fault EarlyEnd (length W))
-unfolding read-term Said shown-wrong
-early W H own at zero e e1 w s [] l h = ap (Fault EarlyEnd) (omega arith)
-early W H own at (suc d) e e1 w s [] l h = ap (Fault EarlyEnd) (omega arith)
+early : (W H : List ℕ) (own at d : ℕ) (e e1 : List ℕ) (w : World H own) (s : Sort) (ys : List Symbol) → length W ≤ at → Symbols W at ys → Said W at e e1 (read-term (w .functions) (w .arguments) d s ys) (Fault (wrong-code means.early-end) (length W))
+unfolding read-term Said wrong-code
+early W H own at zero e e1 w s [] l h = ap (Fault (wrong-code means.early-end)) (omega arith)
+early W H own at (suc d) e e1 w s [] l h = ap (Fault (wrong-code means.early-end)) (omega arith)
 early W H own at d e e1 w s (y ∷ ys) l h = absurd (none-there W at y ys l (h .here))
 
-pub term-none : (W H : List ℕ) (own at d s : ℕ) (e e1 : List ℕ) → length W ≤ at → Told W H own at d s e e1 (Fault EarlyEnd (length W))
-term-none W H own at d s e e1 l = record { told = λ w σ ys x h. early W H own at d e e1 w σ ys l h }
+pub term-none : (W H : List ℕ) (own at d s : ℕ) (e e1 : List ℕ) (r : Reached) → length W ≤ at → r ≡ Fault (wrong-code means.early-end) (length W) → Told W H own at d s e e1 r
+term-none W H own at d s e e1 r l q = record { told = λ w σ ys x h. rw q (early W H own at d e e1 w σ ys l h) }
 
 place : (W : List ℕ) (at : ℕ) (y : Symbol) (ys : List Symbol) → at < length W → drop at W ≡ map symbol-word (y ∷ ys) → at ≡ length W - suc (length ys)
 place W at y ys h e = omega (arith, length-drop at W, ap length e, length-map ys symbol-word)
 
-deep : (W H : List ℕ) (own at d : ℕ) (e e1 : List ℕ) (w : World H own) (s : Sort) (ys : List Symbol) → at < length W → d ≡ 0 → Symbols W at ys → Said W at e e1 (read-term (w .functions) (w .arguments) d s ys) (Fault TooDeep at)
-unfolding read-term Said shown-wrong
+deep : (W H : List ℕ) (own at d : ℕ) (e e1 : List ℕ) (w : World H own) (s : Sort) (ys : List Symbol) → at < length W → d ≡ 0 → Symbols W at ys → Said W at e e1 (read-term (w .functions) (w .arguments) d s ys) (Fault (wrong-code means.too-deep) at)
+unfolding read-term Said wrong-code
 deep W H own at d e e1 w s [] l z h = absurd (some-there W at l (h .here))
-deep W H own at zero e e1 w s (y ∷ ys) l z h = ap (Fault TooDeep) (place W at y ys l (h .here))
+deep W H own at zero e e1 w s (y ∷ ys) l z h = ap (Fault (wrong-code means.too-deep)) (place W at y ys l (h .here))
 deep W H own at (suc d) e e1 w s (y ∷ ys) l z h = absurd (omega (arith, z))
 
-pub term-deep : (W H : List ℕ) (own at d s : ℕ) (e e1 : List ℕ) → at < length W → d ≡ 0 → Told W H own at d s e e1 (Fault TooDeep at)
-term-deep W H own at d s e e1 l z = record { told = λ w σ ys x h. deep W H own at d e e1 w σ ys l z h }
+pub term-deep : (W H : List ℕ) (own at d s : ℕ) (e e1 : List ℕ) (r : Reached) → at < length W → d ≡ 0 → r ≡ Fault (wrong-code means.too-deep) at → Told W H own at d s e e1 r
+term-deep W H own at d s e e1 r l z q = record { told = λ w σ ys x h. rw q (deep W H own at d e e1 w σ ys l z h) }
 
 -- What the first symbol takes.
 asked : (W H : List ℕ) (own at s : ℕ) (w : World H own) (σ : Sort) (y : Symbol) (ys : List Symbol) (t : Takes) → at < length W → s ≡ sort-number σ → Symbols W at (y ∷ ys) → takes-by H own s (getD W at 0) ≡ t →
@@ -163,13 +181,13 @@ asked : (W H : List ℕ) (own at s : ℕ) (w : World H own) (σ : Sort) (y : Sym
 asked W H own at s w σ y ys t l x h e =
     sym (judged H own w σ y (first-spelt y ys (h .spelt))) ∙ rw (← x, ← (first-there W at y ys l (h .here) .0)) e
 
-cannot-take : (W : List ℕ) (at : ℕ) (e e1 : List ℕ) (H : List Line) (y : Symbol) (ys : List Symbol) (v : Wrong) (t : means.Takes) (f : List Sort → Read Terms) → at ≡ length W - suc (length ys) → shown-takes t ≡ Cannot v →
+cannot-take : (W : List ℕ) (at : ℕ) (e e1 : List ℕ) (H : List Line) (y : Symbol) (ys : List Symbol) (v : ℕ) (t : means.Takes) (f : List Sort → Read Terms) → at ≡ length W - suc (length ys) → shown-takes t ≡ Cannot v →
     Said W at e e1 (read-taken H y t (y ∷ ys) f) (Fault v at)
 unfolding read-taken Said shown-takes
-cannot-take W at e e1 H y ys v (means.cannot w) f p x = let z : shown-wrong w ≡ v = cc in rw z (ap (Fault v) p)
+cannot-take W at e e1 H y ys v (means.cannot w) f p x = let z : wrong-code w ≡ v = cc in rw z (ap (Fault v) p)
 cannot-take W at e e1 H y ys v (means.takes S r) f p x = let z : _≡_ {A = ℕ} 0 1 = cc in absurd (omega arith)
 
-bad : (W H : List ℕ) (own at d s : ℕ) (v : Wrong) (e e1 : List ℕ) (w : World H own) (σ : Sort) (ys : List Symbol) → at < length W → (d ≡ 0 → ⊥) → takes-by H own s (getD W at 0) ≡ Cannot v → s ≡ sort-number σ → Symbols W at ys →
+bad : (W H : List ℕ) (own at d s v : ℕ) (e e1 : List ℕ) (w : World H own) (σ : Sort) (ys : List Symbol) → at < length W → (d ≡ 0 → ⊥) → takes-by H own s (getD W at 0) ≡ Cannot v → s ≡ sort-number σ → Symbols W at ys →
     Said W at e e1 (read-term (w .functions) (w .arguments) d σ ys) (Fault v at)
 unfolding read-term
 bad W H own at d s v e e1 w σ [] l z x q h = absurd (some-there W at l (h .here))
@@ -177,25 +195,25 @@ bad W H own at zero s v e e1 w σ (y ∷ ys) l z x q h = absurd (z refl)
 bad W H own at (suc d) s v e e1 w σ (y ∷ ys) l z x q h =
     cannot-take W at e e1 (w .functions) y ys v (if-sort σ (takes-of (w .functions) (w .arguments) σ y)) (λ S. read-row (read-term (w .functions) (w .arguments) d) S ys) (place W at y ys l (h .here)) (asked W H own at s w σ y ys (Cannot v) l q h x)
 
-pub term-bad : (W H : List ℕ) (own at d s : ℕ) (v : Wrong) (e e1 : List ℕ) → at < length W → (d ≡ 0 → ⊥) → takes-by H own s (getD W at 0) ≡ Cannot v → Told W H own at d s e e1 (Fault v at)
-term-bad W H own at d s v e e1 l z x = record { told = λ w σ ys q h. bad W H own at d s v e e1 w σ ys l z x q h }
+pub term-bad : (W H : List ℕ) (own at d s v : ℕ) (e e1 : List ℕ) (r : Reached) → at < length W → (d ≡ 0 → ⊥) → takes-by H own s (getD W at 0) ≡ Cannot v → r ≡ Fault v at → Told W H own at d s e e1 r
+term-bad W H own at d s v e e1 r l z x y = record { told = λ w σ ys q h. rw y (bad W H own at d s v e e1 w σ ys l z x q h) }
 
 node-got : (W e e1 : List ℕ) (at next : ℕ) (r : Reached) (H : List Line) (y : Symbol) (S : List Sort) (ys : List Symbol) (R : Read Terms) → at < length W → length W ≤ length e → Applies y (length S) → Takens S ys R →
-    Saids W (at + 1) e e1 R r → r ≡ Next next → Said W at e (set e1 at next) (with-arguments H y R) (Next next)
+    Saids W (at + 1) e e1 R r → r ≡ Next next → Said W at e (set e1 at next) (with-arguments H y R) r
 unfolding Said Saids with-arguments Takens
 node-got W e e1 at next r H y S ys (fault w zs) h l a t p q = clash p q
 node-got W e e1 at next r H y S ys (got ts zs) h l a t p q =
     let N : Node H y ts = node H y ts (subst (Applies y) (sym (t .1)) a) in
     let n : next ≡ suc at + sizes ts = next-is (p .0) q ∙ ap (λ (k : ℕ). k + sizes ts) (add-one at) in
     let x : row-ends ts (at + 1) ≡ row-ends ts (suc at) = ap (row-ends ts) (add-one at) in (
-      ap Next (omega (arith, n, N .size-of)),
+      q ∙ ap Next (omega (arith, n, N .size-of)),
       rw (p .1) (splice-head e at next (row-ends ts (at + 1)) (omega arith) ∙ rw (n, x, N .ends-of at)),
     )
 
 can-take : (W e e1 : List ℕ) (at d n m next : ℕ) (r : Reached) (H : List Line) (G : List Sort) (σ : Sort) (y : Symbol) (ys : List Symbol) (t : means.Takes) → at < length W → length W ≤ length e →
     shown-takes t ≡ Args n m → ((S : List Sort) (q : Sort) → t ≡ means.takes S q → Applies y (length S)) →
     ((S : List Sort) → n ≡ length S → m ≡ mask S → Saids W (at + 1) e e1 (read-row (read-term H G d) S ys) r) → r ≡ Next next →
-    Said W at e (set e1 at next) (read-taken H y t (y ∷ ys) λ S. read-row (read-term H G d) S ys) (Next next)
+    Said W at e (set e1 at next) (read-taken H y t (y ∷ ys) λ S. read-row (read-term H G d) S ys) r
 unfolding read-taken shown-takes
 can-take W e e1 at d n m next r H G σ y ys (means.takes S q) h l x a k z =
     let u : n ≡ length S = cc in
@@ -204,7 +222,7 @@ can-take W e e1 at d n m next r H G σ y ys (means.takes S q) h l x a k z =
 can-take W e e1 at d n m next r H G σ y ys (means.cannot w) h l x a k z = let o : _≡_ {A = ℕ} 0 1 = cc in absurd (omega arith)
 
 good : (W H : List ℕ) (own at d s n m next : ℕ) (e e1 : List ℕ) (r : Reached) (w : World H own) (σ : Sort) (ys : List Symbol) → at < length W → length W ≤ length e → (d ≡ 0 → ⊥) → takes-by H own s (getD W at 0) ≡ Args n m →
-    Tolds W H own (at + 1) (d - 1) n m e e1 r → r ≡ Next next → s ≡ sort-number σ → Symbols W at ys → Said W at e (set e1 at next) (read-term (w .functions) (w .arguments) d σ ys) (Next next)
+    Tolds W H own (at + 1) (d - 1) n m e e1 r → r ≡ Next next → s ≡ sort-number σ → Symbols W at ys → Said W at e (set e1 at next) (read-term (w .functions) (w .arguments) d σ ys) r
 unfolding read-term
 good W H own at d s n m next e e1 r w σ [] h l z x p q o g = absurd (some-there W at h (g .here))
 good W H own at zero s n m next e e1 r w σ (y ∷ ys) h l z x p q o g = absurd (z refl)
@@ -214,18 +232,18 @@ good W H own at (suc d) s n m next e e1 r w σ (y ∷ ys) h l z x p q o g =
     (λ S u v. (simp sub-one at p) .tolds w S ys u v (symbols-next W at y ys h g)) q
 
 pub term-got : (W H : List ℕ) (own at d s n m next v : ℕ) (e e1 : List ℕ) (r : Reached) → v ≡ next → at < length W → length W ≤ length e → (d ≡ 0 → ⊥) → takes-by H own s (getD W at 0) ≡ Args n m →
-    Tolds W H own (at + 1) (d - 1) n m e e1 r → r ≡ Next next → Told W H own at d s e (set e1 at v) (Next next)
+    Tolds W H own (at + 1) (d - 1) n m e e1 r → r ≡ Next next → Told W H own at d s e (set e1 at v) r
 term-got W H own at d s n m next v e e1 r y h l z x p q =
-    record { told = λ w σ ys o g. subst (λ (k : ℕ). Said W at e (set e1 at k) (read-term (w .functions) (w .arguments) d σ ys) (Next next)) (sym y) (good W H own at d s n m next e e1 r w σ ys h l z x p q o g) }
+    record { told = λ w σ ys o g. subst (λ (k : ℕ). Said W at e (set e1 at k) (read-term (w .functions) (w .arguments) d σ ys) r) (sym y) (good W H own at d s n m next e e1 r w σ ys h l z x p q o g) }
 
-node-fault : (W e e1 : List ℕ) (at p : ℕ) (v : Wrong) (r : Reached) (H : List Line) (y : Symbol) (R : Read Terms) → Saids W (at + 1) e e1 R r → r ≡ Fault v p → Said W at e e1 (with-arguments H y R) (Fault v p)
+node-fault : (W e e1 : List ℕ) (at p v : ℕ) (r : Reached) (H : List Line) (y : Symbol) (R : Read Terms) → Saids W (at + 1) e e1 R r → r ≡ Fault v p → Said W at e e1 (with-arguments H y R) r
 unfolding Said Saids with-arguments
-node-fault W e e1 at p v r H y (fault w zs) x q = sym q ∙ x
+node-fault W e e1 at p v r H y (fault w zs) x q = x
 node-fault W e e1 at p v r H y (got ts zs) x q = clash q (x .0)
 
-stop-take : (W e e1 : List ℕ) (at d n m p : ℕ) (v : Wrong) (r : Reached) (H : List Line) (G : List Sort) (y : Symbol) (ys : List Symbol) (t : means.Takes) →
+stop-take : (W e e1 : List ℕ) (at d n m p v : ℕ) (r : Reached) (H : List Line) (G : List Sort) (y : Symbol) (ys : List Symbol) (t : means.Takes) →
     shown-takes t ≡ Args n m → ((S : List Sort) → n ≡ length S → m ≡ mask S → Saids W (at + 1) e e1 (read-row (read-term H G d) S ys) r) → r ≡ Fault v p →
-    Said W at e e1 (read-taken H y t (y ∷ ys) λ S. read-row (read-term H G d) S ys) (Fault v p)
+    Said W at e e1 (read-taken H y t (y ∷ ys) λ S. read-row (read-term H G d) S ys) r
 unfolding read-taken shown-takes
 stop-take W e e1 at d n m p v r H G y ys (means.takes S q) x k z =
     let a : n ≡ length S = cc in
@@ -233,8 +251,8 @@ stop-take W e e1 at d n m p v r H G y ys (means.takes S q) x k z =
     node-fault W e e1 at p v r H y (read-row (read-term H G d) S ys) (k S a b) z
 stop-take W e e1 at d n m p v r H G y ys (means.cannot w) x k z = let o : _≡_ {A = ℕ} 0 1 = cc in absurd (omega arith)
 
-stops : (W H : List ℕ) (own at d s n m p : ℕ) (v : Wrong) (e e1 : List ℕ) (r : Reached) (w : World H own) (σ : Sort) (ys : List Symbol) → at < length W → (d ≡ 0 → ⊥) → takes-by H own s (getD W at 0) ≡ Args n m →
-    Tolds W H own (at + 1) (d - 1) n m e e1 r → r ≡ Fault v p → s ≡ sort-number σ → Symbols W at ys → Said W at e e1 (read-term (w .functions) (w .arguments) d σ ys) (Fault v p)
+stops : (W H : List ℕ) (own at d s n m p v : ℕ) (e e1 : List ℕ) (r : Reached) (w : World H own) (σ : Sort) (ys : List Symbol) → at < length W → (d ≡ 0 → ⊥) → takes-by H own s (getD W at 0) ≡ Args n m →
+    Tolds W H own (at + 1) (d - 1) n m e e1 r → r ≡ Fault v p → s ≡ sort-number σ → Symbols W at ys → Said W at e e1 (read-term (w .functions) (w .arguments) d σ ys) r
 unfolding read-term
 stops W H own at d s n m p v e e1 r w σ [] h z x k q o g = absurd (some-there W at h (g .here))
 stops W H own at zero s n m p v e e1 r w σ (y ∷ ys) h z x k q o g = absurd (z refl)
@@ -242,44 +260,35 @@ stops W H own at (suc d) s n m p v e e1 r w σ (y ∷ ys) h z x k q o g =
     stop-take W e e1 at d n m p v r (w .functions) (w .arguments) y ys (if-sort σ (takes-of (w .functions) (w .arguments) σ y)) (asked W H own at s w σ y ys (Args n m) h o g x)
     (λ S a b. (simp sub-one at k) .tolds w S ys a b (symbols-next W at y ys h g)) q
 
-pub term-fault : (W H : List ℕ) (own at d s n m p : ℕ) (v : Wrong) (e e1 : List ℕ) (r : Reached) → at < length W → (d ≡ 0 → ⊥) → takes-by H own s (getD W at 0) ≡ Args n m →
-    Tolds W H own (at + 1) (d - 1) n m e e1 r → r ≡ Fault v p → Told W H own at d s e e1 (Fault v p)
+pub term-fault : (W H : List ℕ) (own at d s n m p v : ℕ) (e e1 : List ℕ) (r : Reached) → at < length W → (d ≡ 0 → ⊥) → takes-by H own s (getD W at 0) ≡ Args n m →
+    Tolds W H own (at + 1) (d - 1) n m e e1 r → r ≡ Fault v p → Told W H own at d s e e1 r
 term-fault W H own at d s n m p v e e1 r h z x k q = record { told = λ w σ ys o g. stops W H own at d s n m p v e e1 r w σ ys h z x k q o g }
 
 -- Bodies.
-
-whole-stop : (W e e1 : List ℕ) (at p : ℕ) (v : Wrong) (r : Reached) (R : Read Term) → Said W at e e1 R r → r ≡ Fault v p → Said W at e e1 (nothing-after R) (Fault v p)
-unfolding Said nothing-after
-whole-stop W e e1 at p v r (fault w zs) x q = sym q ∙ x
-whole-stop W e e1 at p v r (got t []) x q = clash q (x .0)
-whole-stop W e e1 at p v r (got t (z ∷ zs)) x q = clash q (x .0)
-
-pub whole-fault : (W H : List ℕ) (own at p : ℕ) (v : Wrong) (e e1 : List ℕ) (r : Reached) → Told W H own at 32 (own / 16 % 2) e e1 r → r ≡ Fault v p → Whole W H own at e e1 (Fault v p)
-whole-fault W H own at p v e e1 r x q = record { whole = λ w σ ys o h. whole-stop W e e1 at p v r (read-term (w .functions) (w .arguments) most-depth σ ys) (x .told w σ ys o h) q }
 
 over : (W : List ℕ) (at : ℕ) (t : Term) (ys zs : List Symbol) → Symbols W at ys → ys ≡ term-symbols t ++ zs → at + size t + length zs ≡ length W
 over W at t ys zs h e =
     omega (arith, length-drop at W, ap length (h .here), length-map ys symbol-word, ap length e, length-append (term-symbols t) zs, symbol-count t, size-one t)
 
-whole-more : (W e e1 : List ℕ) (at n : ℕ) (r : Reached) (ys : List Symbol) (R : Read Term) → Symbols W at ys → Taken ys R → Said W at e e1 R r → r ≡ Next n → n < length W → Said W at e e1 (nothing-after R) (Fault LeftOver n)
-unfolding Said Taken nothing-after shown-wrong
+whole-more : (W e e1 : List ℕ) (at n : ℕ) (r : Reached) (ys : List Symbol) (R : Read Term) → Symbols W at ys → Taken ys R → Said W at e e1 R r → r ≡ Next n → n < length W → Said W at e e1 (nothing-after R) (Fault (wrong-code means.left-over) n)
+unfolding Said Taken nothing-after
 whole-more W e e1 at n r ys (fault w zs) h t x q l = clash x q
 whole-more W e e1 at n r ys (got u []) h t x q l = absurd (omega (arith, next-is (x .0) q, over W at u ys [] h t))
-whole-more W e e1 at n r ys (got u (z ∷ zs)) h t x q l = ap (Fault LeftOver) (omega (arith, next-is (x .0) q, over W at u ys (z ∷ zs) h t))
+whole-more W e e1 at n r ys (got u (z ∷ zs)) h t x q l = ap (Fault (wrong-code means.left-over)) (omega (arith, next-is (x .0) q, over W at u ys (z ∷ zs) h t))
 
-pub whole-left : (W H : List ℕ) (own at n : ℕ) (e e1 : List ℕ) (r : Reached) → Told W H own at 32 (own / 16 % 2) e e1 r → r ≡ Next n → n < length W → Whole W H own at e e1 (Fault LeftOver n)
-whole-left W H own at n e e1 r x q l =
-    record { whole = λ w σ ys o h. whole-more W e e1 at n r ys (read-term (w .functions) (w .arguments) most-depth σ ys) h (taken-term (w .functions) (w .arguments) most-depth σ ys) (x .told w σ ys o h) q l }
+pub whole-left : (W H : List ℕ) (own at n : ℕ) (e e1 : List ℕ) (r r1 : Reached) → Told W H own at 32 (own / 16 % 2) e e1 r → r ≡ Next n → n < length W → r1 ≡ Fault (wrong-code means.left-over) n → Whole W H own at e e1 r1
+whole-left W H own at n e e1 r r1 x q l y =
+    record { whole = λ w σ ys o h. rw y (whole-more W e e1 at n r ys (read-term (w .functions) (w .arguments) most-depth σ ys) h (taken-term (w .functions) (w .arguments) most-depth σ ys) (x .told w σ ys o h) q l) }
 
-whole-end : (W e e1 : List ℕ) (at n : ℕ) (r : Reached) (ys : List Symbol) (R : Read Term) → Symbols W at ys → Taken ys R → Said W at e e1 R r → r ≡ Next n → length W ≤ n → Said W at e e1 (nothing-after R) (Next n)
+whole-end : (W e e1 : List ℕ) (at r : ℕ) (ys : List Symbol) (R : Read Term) → Symbols W at ys → Taken ys R → Said W at e e1 R (reached r) → length W ≤ r → Said W at e e1 (nothing-after R) (reached r)
 unfolding Said Taken nothing-after
-whole-end W e e1 at n r ys (fault w zs) h t x q l = clash x q
-whole-end W e e1 at n r ys (got u []) h t x q l = (sym q ∙ x .0, x .1)
-whole-end W e e1 at n r ys (got u (z ∷ zs)) h t x q l = absurd (omega (arith, next-is (x .0) q, over W at u ys (z ∷ zs) h t))
+whole-end W e e1 at r ys (fault w zs) h t x l = x
+whole-end W e e1 at r ys (got u []) h t x l = x
+whole-end W e e1 at r ys (got u (z ∷ zs)) h t x l = absurd (omega (arith, only-next (at + size u) r (ltb r faults) refl (x .0), over W at u ys (z ∷ zs) h t))
 
-pub whole-done : (W H : List ℕ) (own at n : ℕ) (e e1 : List ℕ) (r : Reached) → Told W H own at 32 (own / 16 % 2) e e1 r → r ≡ Next n → length W ≤ n → Whole W H own at e e1 (Next n)
-whole-done W H own at n e e1 r x q l =
-    record { whole = λ w σ ys o h. whole-end W e e1 at n r ys (read-term (w .functions) (w .arguments) most-depth σ ys) h (taken-term (w .functions) (w .arguments) most-depth σ ys) (x .told w σ ys o h) q l }
+pub whole-done : (W H : List ℕ) (own at r : ℕ) (e e1 : List ℕ) → Told W H own at 32 (own / 16 % 2) e e1 (reached r) → length W ≤ r → Whole W H own at e e1 (reached r)
+whole-done W H own at r e e1 x l =
+    record { whole = λ w σ ys o h. whole-end W e e1 at r ys (read-term (w .functions) (w .arguments) most-depth σ ys) h (taken-term (w .functions) (w .arguments) most-depth σ ys) (x .told w σ ys o h) l }
 
 -- Places.
 
@@ -287,45 +296,63 @@ pub within-next : (n at p : ℕ) (r : Reached) → Within n at r → r ≡ Next 
 unfolding Within
 within-next n at p r h e = subst (Within n at) e h
 
-pub within-fault : (n at p : ℕ) (v : Wrong) (r : Reached) → Within n at r → r ≡ Fault v p → p ≤ n
+pub place-within : (n at p : ℕ) (r : Reached) → r ≡ Next p → p ≤ n → at ≤ p → Within n at r
 unfolding Within
-within-fault n at p v r h e = subst (Within n at) e h
+place-within n at p r e h l = rw e (h, l)
 
--- Few arguments.
-
-counted : Takes → ℕ
-counted (Args n m) = n
-counted (Cannot w) = 0
-
-few-if : (b : Bool) (x y : Takes) → counted x < 16 → counted y < 16 → counted (if b then x else y) < 16
-few-if true x y p q = p
-few-if false x y p q = q
-
-few-signed : (s h : ℕ) → counted (signed-by s h) < 16
-unfolding signed-by counted
-few-signed s h = few-if (eqb (h / 16 % 2) s) (Args (h % 16) (h / 32 % 256)) (Cannot OtherSort) (omega arith) (omega arith)
-
-few-argument : (own s i : ℕ) → counted (argument-by own s i) < 16
-unfolding argument-by counted
-few-argument own s i = few-if (ltb i (own % 16)) _ _ (few-if (eqb (own / 32 % 256 / 2 ^ i % 2) s) (Args 0 0) (Cannot OtherSort) (omega arith) (omega arith)) (omega arith)
-
-few-function : (H : List ℕ) (s f : ℕ) → counted (function-by H s f) < 16
-unfolding function-by counted
-few-function H s f = few-if (ltb f (length H)) (signed-by s (getD H f 0)) (Cannot UnknownSymbol) (few-signed s (getD H f 0)) (omega arith)
-
-few-takes : (H : List ℕ) (own s w : ℕ) → counted (takes-by H own s w) < 16
-unfolding takes-by counted
-few-takes H own s w =
-    few-if (eqb w 0) (Cannot UnknownSymbol) _ (omega arith)
-    (few-if (ltb w 9) (argument-by own s (w - 1)) _ (few-argument own s (w - 1))
-    (few-if (eqb w 21) (Args 3 (1 + 6 * s)) _ (omega arith)
-    (few-if (ltb w 32) (signed-by s (getD operations w 0)) _ (few-signed s (getD operations w 0)) (few-function H s (w - 32)))))
-
-pub few : (H : List ℕ) (own s w n m : ℕ) (t : Takes) → t ≡ takes-by H own s w → t ≡ Args n m → n < 16
-unfolding counted
-few H own s w n m t p q = subst (λ (u : Takes). counted u < 16) (sym p ∙ q) (few-takes H own s w)
+pub fault-within : (n at p v : ℕ) (r : Reached) → r ≡ Fault v p → p ≤ n → Within n at r
+unfolding Within
+fault-within n at p v r e h = rw e h
 
 pub within-more : (n at next : ℕ) (r : Reached) → at ≤ next → Within n next r → Within n at r
 unfolding Within
 within-more n at next (Next p) h x = (x .0, omega (arith, x .1))
 within-more n at next (Fault w p) h x = x
+
+-- Few arguments, and codes that fit.
+
+Fits : Takes → Type 0
+Fits (Args n m) = n < 16
+Fits (Cannot w) = (0 < w) × (w < faults)
+
+either-fits : (b : Bool) (x y : Takes) → Fits x → Fits y → Fits (if b then x else y)
+either-fits true x y p q = p
+either-fits false x y p q = q
+
+code-fits : (w : means.Wrong) → Fits (Cannot (wrong-code w))
+unfolding Fits wrong-code
+code-fits means.unknown-symbol = (omega arith, omega arith)
+code-fits means.lacking-argument = (omega arith, omega arith)
+code-fits means.other-sort = (omega arith, omega arith)
+code-fits means.early-end = (omega arith, omega arith)
+code-fits means.left-over = (omega arith, omega arith)
+code-fits means.too-deep = (omega arith, omega arith)
+
+signed-fits : (s h : ℕ) → Fits (signed-by s h)
+unfolding signed-by Fits
+signed-fits s h = either-fits (eqb (h / 16 % 2) s) (Args (h % 16) (h / 32 % 256)) _ (omega arith) (code-fits means.other-sort)
+
+argument-fits : (own s i : ℕ) → Fits (argument-by own s i)
+unfolding argument-by Fits
+argument-fits own s i =
+    either-fits (ltb i (own % 16)) _ _ (either-fits (eqb (own / 32 % 256 / 2 ^ i % 2) s) (Args 0 0) _ (omega arith) (code-fits means.other-sort)) (code-fits means.lacking-argument)
+
+function-fits : (H : List ℕ) (s f : ℕ) → Fits (function-by H s f)
+unfolding function-by
+function-fits H s f = either-fits (ltb f (length H)) (signed-by s (getD H f 0)) _ (signed-fits s (getD H f 0)) (code-fits means.unknown-symbol)
+
+takes-fits : (H : List ℕ) (own s w : ℕ) → Fits (takes-by H own s w)
+unfolding takes-by Fits
+takes-fits H own s w =
+    either-fits (eqb w 0) _ _ (code-fits means.unknown-symbol)
+    (either-fits (ltb w 9) (argument-by own s (w - 1)) _ (argument-fits own s (w - 1))
+    (either-fits (eqb w 21) (Args 3 (1 + 6 * s)) _ (omega arith)
+    (either-fits (ltb w 32) (signed-by s (getD operations w 0)) _ (signed-fits s (getD operations w 0)) (function-fits H s (w - 32)))))
+
+pub few : (H : List ℕ) (own s w n m : ℕ) (t : Takes) → t ≡ takes-by H own s w → t ≡ Args n m → n < 16
+unfolding Fits
+few H own s w n m t p q = subst Fits (sym p ∙ q) (takes-fits H own s w)
+
+pub coded : (H : List ℕ) (own s w k : ℕ) (t : Takes) → t ≡ takes-by H own s w → t ≡ Cannot k → (0 < k) × (k < faults)
+unfolding Fits
+coded H own s w k t p q = subst Fits (sym p ∙ q) (takes-fits H own s w)

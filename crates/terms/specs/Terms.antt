@@ -1,8 +1,7 @@
 -- Terms over words: what a symbol takes by its word, and what reading a term answers and leaves in the table of ends. Assumes nothing.
 use mathlib.Core.Path.{_≡_}
-use mathlib.Core.Bool.{Bool, true, false}
-use mathlib.Core.List.{List, [], _∷_, _++_, map}
-use Prim.Native.Nat.{ℕ, zero, suc, _+_, _-_, _*_, _/_, _%_, _^_, _<_, _≤_}
+use mathlib.Core.List.{List, [], _∷_, map}
+use Prim.Native.Nat.{ℕ, _+_, _-_, _*_, _/_, _%_, _^_, _≤_}
 use lib.Dec.{ltb, eqb}
 use lib.ListN.{length, getD, drop}
 use Rattle.meaning.specs.Basics.{if_then_else_}
@@ -13,42 +12,51 @@ use Rattle.meaning.specs.Terms as means
 use Rattle.meaning.specs.Terms.{Term, Terms, Symbol, Read, got, fault, read-term, read-row, nothing-after}
 use Rattle.meaning.specs.Code.{size, sizes}
 use Rattle.meaning.specs.Answers.{sort-number}
-use Rattle.table.specs.Table.{symbol-word, term-ends, row-ends, mask, signature}
+use Rattle.table.specs.Table.{symbol-word, term-ends, row-ends, mask}
 use Rattle.symbols.specs.Symbols.{All-spelt}
 use Rattle.lines.specs.Lines.{line-signature}
 use Rattle.lines.specs.Splice.{splice}
-use Rattle.terms.specs.declared.Wrong.{Wrong}
-use Rattle.terms.specs.declared.Wrong.the-variants.{UnknownSymbol, LackingArgument, OtherSort, EarlyEnd, LeftOver, TooDeep}
 use Rattle.terms.specs.declared.Takes.{Takes}
 use Rattle.terms.specs.declared.Takes.the-variants.{Args, Cannot}
-use Rattle.terms.specs.declared.Reached.{Reached}
-use Rattle.terms.specs.declared.Reached.the-variants.{Next, Fault}
 
--- The cases that the definition's are.
-unfoldable pub shown-wrong : means.Wrong → Wrong
-shown-wrong means.unknown-symbol = UnknownSymbol
-shown-wrong means.lacking-argument = LackingArgument
-shown-wrong means.other-sort = OtherSort
-shown-wrong means.early-end = EarlyEnd
-shown-wrong means.left-over = LeftOver
-shown-wrong means.too-deep = TooDeep
+-- What is wrong, as a code.
+unfoldable pub wrong-code : means.Wrong → ℕ
+wrong-code means.unknown-symbol = 1
+wrong-code means.lacking-argument = 2
+wrong-code means.other-sort = 3
+wrong-code means.early-end = 4
+wrong-code means.left-over = 5
+wrong-code means.too-deep = 6
 
+-- Where reading has come to: the place after a term, or what is wrong by its code and where.
+pub data Reached : Type 0 where
+  Next : ℕ → Reached
+  Fault : ℕ → ℕ → Reached
+
+-- As one number: places stand below `faults`.
+abbrev pub faults : ℕ
+faults = 4096
+
+unfoldable pub reached : ℕ → Reached
+reached r = if ltb r faults then Next r else Fault (r / faults) (r % faults)
+
+-- What the definition says that a symbol takes, in the code's case.
 unfoldable pub shown-takes : means.Takes → Takes
 shown-takes (means.takes S r) = Args (length S) (mask S)
-shown-takes (means.cannot w) = Cannot (shown-wrong w)
+shown-takes (means.cannot w) = Cannot (wrong-code w)
 
 -- What a symbol takes by its word, in a function that has the signature `own`, where the sort s is expected; the functions have the signatures H.
 unfoldable pub signed-by : ℕ → ℕ → Takes
-signed-by s h = if eqb (h / 16 % 2) s then Args (h % 16) (h / 32 % 256) else Cannot OtherSort
+signed-by s h = if eqb (h / 16 % 2) s then Args (h % 16) (h / 32 % 256) else Cannot (wrong-code means.other-sort)
 
 unfoldable pub argument-by : ℕ → ℕ → ℕ → Takes
 argument-by own s i =
     if ltb i (own % 16)
-    then (if eqb (own / 32 % 256 / 2 ^ i % 2) s then Args 0 0 else Cannot OtherSort)
-    else Cannot LackingArgument
+    then (if eqb (own / 32 % 256 / 2 ^ i % 2) s then Args 0 0 else Cannot (wrong-code means.other-sort))
+    else Cannot (wrong-code means.lacking-argument)
 
 unfoldable pub function-by : List ℕ → ℕ → ℕ → Takes
-function-by H s f = if ltb f (length H) then signed-by s (getD H f 0) else Cannot UnknownSymbol
+function-by H s f = if ltb f (length H) then signed-by s (getD H f 0) else Cannot (wrong-code means.unknown-symbol)
 
 -- The signatures of the symbols below `cond`.
 unfoldable pub operations : List ℕ
@@ -57,7 +65,7 @@ operations = 0 ∷ 0 ∷ 0 ∷ 0 ∷ 0 ∷ 0 ∷ 0 ∷ 0 ∷ 0 ∷ 0 ∷ 16 ∷ 
 unfoldable pub takes-by : List ℕ → ℕ → ℕ → ℕ → Takes
 takes-by H own s w =
     if eqb w 0
-    then Cannot UnknownSymbol
+    then Cannot (wrong-code means.unknown-symbol)
     else if ltb w 9
     then argument-by own s (w - 1)
     else if eqb w 21
@@ -88,11 +96,11 @@ pub record Symbols (W : List ℕ) (at : ℕ) (ys : List Symbol) : Type 0 where
 -- What reading a term at `at` of the words W answers, and leaves in the table of ends.
 unfoldable pub Said : List ℕ → ℕ → List ℕ → List ℕ → Read Term → Reached → Type 0
 Said W at e e′ (got t ys) r = (r ≡ Next (at + size t)) × (e′ ≡ splice e at (term-ends t at))
-Said W at e e′ (fault w ys) r = r ≡ Fault (shown-wrong w) (length W - length ys)
+Said W at e e′ (fault w ys) r = r ≡ Fault (wrong-code w) (length W - length ys)
 
 unfoldable pub Saids : List ℕ → ℕ → List ℕ → List ℕ → Read Terms → Reached → Type 0
 Saids W at e e′ (got ts ys) r = (r ≡ Next (at + sizes ts)) × (e′ ≡ splice e at (row-ends ts at))
-Saids W at e e′ (fault w ys) r = r ≡ Fault (shown-wrong w) (length W - length ys)
+Saids W at e e′ (fault w ys) r = r ≡ Fault (wrong-code w) (length W - length ys)
 
 pub record Told (W H : List ℕ) (own at d s : ℕ) (e e′ : List ℕ) (r : Reached) : Type 0 where
   pub told : (w : World H own) (σ : Sort) (ys : List Symbol) → s ≡ sort-number σ → Symbols W at ys → Said W at e e′ (read-term (w .functions) (w .arguments) d σ ys) r

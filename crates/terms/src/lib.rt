@@ -1,30 +1,30 @@
 // Terms over the table of symbols: a term is read by reading its symbol, then as many argument terms as it takes, each symbol judged at its own
 // place; where each term ends goes into a lent table. Each symbol is looked at once. Assumes nothing.
 ghost use mathlib.Core.Path.{_≡_};
-ghost use Prim.Native.Nat.{ℕ, _+_, _*_, _/_, _%_, _^_, _≤_, _<_};
-ghost use lib.ListN.{length, getD, drop};
-ghost use Rattle.terms.specs.Terms.{signed-by, argument-by, function-by, operations, takes-by, Told, Tolds, Whole, Within};
+ghost use Prim.Native.Nat.{_+_, _*_, _/_, _%_, _^_, _≤_, _<_};
+ghost use lib.ListN.{length, getD};
+ghost use Rattle.terms.specs.Terms.{faults, reached, Fault, signed-by, argument-by, function-by, operations, takes-by, Told, Tolds, Whole, Within};
 
-// What is wrong at a symbol.
-pub enum Wrong {
-    UnknownSymbol,
-    LackingArgument,
-    OtherSort,
-    EarlyEnd,
-    LeftOver,
-    TooDeep,
-}
+// What is wrong at a symbol, as a code.
+pub const UNKNOWN_SYMBOL: usize = 1;
+
+pub const LACKING_ARGUMENT: usize = 2;
+
+pub const OTHER_SORT: usize = 3;
+
+pub const EARLY_END: usize = 4;
+
+pub const LEFT_OVER: usize = 5;
+
+pub const TOO_DEEP: usize = 6;
+
+// Where reading has come to is one number, so that a register answers it: below FAULTS the place after a term, else FAULTS times what is wrong and its place.
+pub const FAULTS: usize = 4096;
 
 // What a symbol takes: how many arguments and their sorts as a mask; or what is wrong with it.
 pub enum Takes {
     Args(u32, u32),
-    Cannot(Wrong),
-}
-
-// Where reading has come to: the place after a term, or what is wrong and where.
-pub enum Reached {
-    Next(usize),
-    Fault(Wrong, usize),
+    Cannot(usize),
 }
 
 // A symbol that takes and gives what a signature says, where a sort is expected.
@@ -34,7 +34,7 @@ fn signed(sort: u32, h: u32) -> Takes
     if h / table::RESULT_UNIT % 2 == sort {
         Takes::Args(h % table::RESULT_UNIT, h / table::SORTS_UNIT % table::MASKS)
     } else {
-        Takes::Cannot(Wrong::OtherSort)
+        Takes::Cannot(OTHER_SORT)
     }
 }
 
@@ -70,9 +70,9 @@ fn argument(own: u32, sort: u32, i: u32) -> Takes
         if bit_at(own / table::SORTS_UNIT % table::MASKS, i) == sort {
             return Takes::Args(0, 0);
         }
-        return Takes::Cannot(Wrong::OtherSort);
+        return Takes::Cannot(OTHER_SORT);
     }
-    Takes::Cannot(Wrong::LackingArgument)
+    Takes::Cannot(LACKING_ARGUMENT)
 }
 
 fn function(heads: &[u32], sort: u32, f: usize) -> Takes
@@ -81,7 +81,7 @@ fn function(heads: &[u32], sort: u32, f: usize) -> Takes
     if f < heads.len() {
         return signed(sort, heads[f]);
     }
-    Takes::Cannot(Wrong::UnknownSymbol)
+    Takes::Cannot(UNKNOWN_SYMBOL)
 }
 
 // What a symbol takes by its word, in a function that has the signature `own`, where a sort is expected.
@@ -90,7 +90,7 @@ fn judge(heads: &[u32], own: u32, sort: u32, w: u32) -> Takes
     ensures { λ r. ⌜ r ≡ takes-by (now (heads .entry)) own sort w ⌝ }
 {
     if w == 0 {
-        return Takes::Cannot(Wrong::UnknownSymbol);
+        return Takes::Cannot(UNKNOWN_SYMBOL);
     }
     if w < table::FIRST_CONSTANT {
         return argument(own, sort, w - 1);
@@ -104,11 +104,19 @@ fn judge(heads: &[u32], own: u32, sort: u32, w: u32) -> Takes
     function(heads, sort, (w - table::FIRST_FUNCTION) as usize)
 }
 
-fn narrow(x: usize) -> u32
+pub fn narrow(x: usize) -> u32
     requires { ⌜ x < 4294967296 ⌝ }
     ensures { λ r. ⌜ r ≡ x ⌝ }
 {
     x as u32
+}
+
+// What is wrong and where, as one number.
+fn fault(wrong: usize, at: usize) -> usize
+    requires { ⌜ (0 < wrong) × (wrong < faults) × (at < faults) ⌝ }
+    ensures { λ r. ⌜ reached r ≡ Fault wrong at ⌝ }
+{
+    FAULTS * wrong + at
 }
 
 // "Reading a term means reading its symbol, then as many argument terms as it takes." Symbols may stand `depth` deep.
@@ -120,31 +128,30 @@ fn read_term(
     depth: usize,
     sort: u32,
     ends: &mut [u32],
-) -> Reached
-    requires { ⌜ (length (now words) ≤ length (now ends)) × (length (now words) ≤ 2048) × (sort < 2) ⌝ }
-    ensures read { λ r. ⌜ Told (now (words .entry)) (now (heads .entry)) own at depth sort (now (ends .entry)) (now (ends .exit)) r ⌝ }
-    ensures within { λ r. ⌜ Within (length (now (words .entry))) at r ⌝ }
+) -> usize
+    requires { ⌜ (length (now words) ≤ length (now ends)) × (length (now words) < faults) × (sort < 2) ⌝ }
+    ensures read { λ r. ⌜ Told (now (words .entry)) (now (heads .entry)) own at depth sort (now (ends .entry)) (now (ends .exit)) (reached r) ⌝ }
+    ensures within { λ r. ⌜ Within (length (now (words .entry))) at (reached r) ⌝ }
 {
     if words.len() <= at {
-        return Reached::Fault(Wrong::EarlyEnd, words.len());
+        return fault(EARLY_END, words.len());
     }
     if depth == 0 {
-        return Reached::Fault(Wrong::TooDeep, at);
+        return fault(TOO_DEEP, at);
     }
     match judge(heads, own, sort, words[at]) {
-        Takes::Cannot(w) => Reached::Fault(w, at),
+        Takes::Cannot(wrong) => fault(wrong, at),
         Takes::Args(count, mask) => {
             if count == 0 {
                 ends[at] = narrow(at + 1);
-                return Reached::Next(at + 1);
+                return at + 1;
             }
-            match read_args(words, heads, own, at + 1, depth - 1, count, mask, ends) {
-                Reached::Next(next) => {
-                    ends[at] = narrow(next);
-                    Reached::Next(next)
-                }
-                Reached::Fault(w, p) => Reached::Fault(w, p),
+            let next = read_args(words, heads, own, at + 1, depth - 1, count, mask, ends);
+            if next < FAULTS {
+                ends[at] = narrow(next);
+                return next;
             }
+            next
         }
     }
 }
@@ -159,27 +166,28 @@ fn read_args(
     count: u32,
     mask: u32,
     ends: &mut [u32],
-) -> Reached
-    requires { ⌜ (length (now words) ≤ length (now ends)) × (length (now words) ≤ 2048) × (at ≤ length (now words)) ⌝ }
-    ensures read { λ r. ⌜ Tolds (now (words .entry)) (now (heads .entry)) own at depth count mask (now (ends .entry)) (now (ends .exit)) r ⌝ }
-    ensures within { λ r. ⌜ Within (length (now (words .entry))) at r ⌝ }
+) -> usize
+    requires { ⌜ (length (now words) ≤ length (now ends)) × (length (now words) < faults) × (at ≤ length (now words)) ⌝ }
+    ensures read { λ r. ⌜ Tolds (now (words .entry)) (now (heads .entry)) own at depth count mask (now (ends .entry)) (now (ends .exit)) (reached r) ⌝ }
+    ensures within { λ r. ⌜ Within (length (now (words .entry))) at (reached r) ⌝ }
 {
     if count == 0 {
-        return Reached::Next(at);
+        return at;
     }
-    match read_term(words, heads, own, at, depth, mask % 2, ends) {
-        Reached::Next(next) => read_args(words, heads, own, next, depth, count - 1, mask / 2, ends),
-        Reached::Fault(w, p) => Reached::Fault(w, p),
+    let next = read_term(words, heads, own, at, depth, mask % 2, ends);
+    if next < FAULTS {
+        return read_args(words, heads, own, next, depth, count - 1, mask / 2, ends);
     }
+    next
 }
 
 // A body is one term of its sort and nothing after it: the symbols from `from` on, of a function that has the signature `own`.
-pub fn read_body(words: &[u32], heads: &[u32], own: u32, from: usize, ends: &mut [u32]) -> Reached
-    requires { ⌜ (length (now words) ≤ length (now ends)) × (length (now words) ≤ 2048) ⌝ }
-    ensures read { λ r. ⌜ Whole (now (words .entry)) (now (heads .entry)) own from (now (ends .entry)) (now (ends .exit)) r ⌝ }
-    ensures within { λ r. ⌜ Within (length (now (words .entry))) from r ⌝ }
+pub fn read_body(words: &[u32], heads: &[u32], own: u32, from: usize, ends: &mut [u32]) -> usize
+    requires { ⌜ (length (now words) ≤ length (now ends)) × (length (now words) < faults) ⌝ }
+    ensures read { λ r. ⌜ Whole (now (words .entry)) (now (heads .entry)) own from (now (ends .entry)) (now (ends .exit)) (reached r) ⌝ }
+    ensures within { λ r. ⌜ Within (length (now (words .entry))) from (reached r) ⌝ }
 {
-    match read_term(
+    let next = read_term(
         words,
         heads,
         own,
@@ -187,13 +195,9 @@ pub fn read_body(words: &[u32], heads: &[u32], own: u32, from: usize, ends: &mut
         meaning::MOST_DEPTH,
         own / table::RESULT_UNIT % 2,
         ends,
-    ) {
-        Reached::Next(next) => {
-            if next < words.len() {
-                return Reached::Fault(Wrong::LeftOver, next);
-            }
-            Reached::Next(next)
-        }
-        Reached::Fault(w, p) => Reached::Fault(w, p),
+    );
+    if next < words.len() {
+        return fault(LEFT_OVER, next);
     }
+    next
 }

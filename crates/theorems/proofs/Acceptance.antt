@@ -1,6 +1,6 @@
 -- Seventh: an accepted text is a program whose every term has its sort, and the entry call at fitting arguments has one too. Assumes nothing.
 use mathlib.Core.Path.{_≡_, refl, ap, sym, _∙_, subst}
-use mathlib.Core.Bool.{Bool, true, false, _&&_}
+use mathlib.Core.Bool.{Bool, true, false}
 use mathlib.Core.Option.{Option, none, some}
 use mathlib.Core.List.{List, [], _∷_, map}
 use Prim.Native.Nat.{ℕ, zero, suc, _+_, _-_, _≤_, _<_}
@@ -17,28 +17,17 @@ use Rattle.meaning.specs.Check.{check}
 use Rattle.meaning.specs.Code.{own, initial}
 use Rattle.meaning.specs.Answers.{fits, all-fit, fitting}
 use Rattle.accepted.specs.Accepted.{Sound, Accepted}
-use Rattle.accepted.proofs.Accepted.{accepted, every-there}
+use Rattle.accepted.proofs.Lines.{both}
+use Rattle.accepted.proofs.Accepted.{fine-bind, fine-same, accepted, every-there}
 use Rattle.theorems.proofs.Splitting.{clash}
 use Rattle.theorems.proofs.Sorts.{of-sort, of-sorts, constant-sorted, sorted, row-sorted, Sorted}
 
 -- Taking a verdict apart.
 
-pub bound-fine : {A B : Type 0} (m : Verdict A) (f : A → Verdict B) {b : B} → m >>= f ≡ fine b → (a : A) × (m ≡ fine a) × (f a ≡ fine b)
-unfolding _>>=_
-bound-fine (fine a) f e = (a, refl, e)
-bound-fine (refused n l k) f e = clash (cc)
-
 pub both-fine : {A B : Type 0} (m : Verdict A) (x : Verdict B) {b : B} → m >> x ≡ fine b → (a : A) × (m ≡ fine a) × (x ≡ fine b)
 unfolding _>>_
 both-fine (fine a) x e = (a, refl, e)
 both-fine (refused n l k) x e = clash (cc)
-
-pub fine-same : {A : Type 0} {a b : A} → fine a ≡ fine b → a ≡ b
-fine-same e = cc
-
-pub both-true : (a b : Bool) → (a && b) ≡ true → (a ≡ true) × (b ≡ true)
-both-true true b e = (refl, e)
-both-true false b e = clash (cc)
 
 -- A constant among the symbols has a value of its sort: `true`, `false`, or a number.
 
@@ -258,8 +247,8 @@ bodies-fine : (H : List Line) (l : ℕ) (hs : List Line) (P : Program) → read-
 unfolding read-bodies read-body
 bodies-fine H l [] P e = subst (Bodies H []) (fine-same e) no-body
 bodies-fine H l (h ∷ hs) P e =
-    let p = bound-fine (function-of l h (read-body H h)) (λ F. read-bodies H (l + 1) hs >>= λ Q. fine (F ∷ Q)) e in
-    let q = bound-fine (read-bodies H (l + 1) hs) (λ Q. fine (p .0 ∷ Q)) (p .2) in
+    let p = fine-bind (function-of l h (read-body H h)) (λ F. read-bodies H (l + 1) hs >>= λ Q. fine (F ∷ Q)) e in
+    let q = fine-bind (read-bodies H (l + 1) hs) (λ Q. fine (p .0 ∷ Q)) (p .2) in
     let w = function-fine l h (read-body H h) (p .1) in
     subst (Bodies H (h ∷ hs)) (fine-same (q .2)) (one-body (w .0) (nothing-left (reads-body H h) (w .2)) (bodies-fine H (l + 1) hs (q .0) (q .1)))
 
@@ -313,7 +302,7 @@ unfolding all-fit of-sorts
 all-fit-sorts [] [] e = tt
 all-fit-sorts [] (v ∷ vs) e = clash (cc)
 all-fit-sorts (s ∷ S) [] e = clash (cc)
-all-fit-sorts (s ∷ S) (v ∷ vs) e = let p = both-true (fits s v) (all-fit S vs) e in (fits-sort s v (p .0), all-fit-sorts S vs (p .1))
+all-fit-sorts (s ∷ S) (v ∷ vs) e = let p = both (fits s v) (all-fit S vs) e in (fits-sort s v (p .0), all-fit-sorts S vs (p .1))
 
 -- What is known of an accepted text at fitting arguments.
 pub record WellMade (P : Program) (args : List ℕ) : Type 0 where

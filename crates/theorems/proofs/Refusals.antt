@@ -20,7 +20,9 @@ use Rattle.meaning.specs.declared.Answer.{Answer}
 use Rattle.accepted.proofs.Refused.{proper, bind-proper, then-proper, check-proper}
 use Rattle.theorems.specs.Outcomes.{Admitted}
 use Rattle.theorems.proofs.Splitting.{clash}
-use Rattle.theorems.proofs.Acceptance.{bound-fine, both-fine, fine-same, both-true}
+use Rattle.accepted.proofs.Lines.{both}
+use Rattle.accepted.proofs.Accepted.{fine-bind, fine-same}
+use Rattle.theorems.proofs.Acceptance.{both-fine}
 
 arguments-proper : (b : Bool) → proper (judge-arguments b)
 unfolding judge-arguments proper no
@@ -54,12 +56,12 @@ room-fine false e = clash (cc)
 admitted-of : (text args : List ℕ) (code work : ℕ) {P : Program} → admit-run text args code work ≡ fine P → Admitted text args code work P
 unfolding admit-run
 admitted-of text args code work {P} e =
-    let p = bound-fine (check text) (λ Q. judge-arguments (fitting Q args) >> judge-room (code-fits Q code && leb work-words work) >> fine Q) e in
+    let p = fine-bind (check text) (λ Q. judge-arguments (fitting Q args) >> judge-room (code-fits Q code && leb work-words work) >> fine Q) e in
     let Q = p .0 in
-    let both = both-fine (judge-arguments (fitting Q args) >> judge-room (code-fits Q code && leb work-words work)) (fine Q) (p .2) in
-    let tests = both-fine (judge-arguments (fitting Q args)) (judge-room (code-fits Q code && leb work-words work)) (both .1) in
-    let room = both-true (code-fits Q code) (leb work-words work) (room-fine (code-fits Q code && leb work-words work) (tests .2)) in
-    subst (Admitted text args code work) (fine-same (both .2))
+    let parts = both-fine (judge-arguments (fitting Q args) >> judge-room (code-fits Q code && leb work-words work)) (fine Q) (p .2) in
+    let tests = both-fine (judge-arguments (fitting Q args)) (judge-room (code-fits Q code && leb work-words work)) (parts .1) in
+    let room = both (code-fits Q code) (leb work-words work) (room-fine (code-fits Q code && leb work-words work) (tests .2)) in
+    subst (Admitted text args code work) (fine-same (parts .2))
     (record {
       accepted = p .1;
       fits = arguments-fine (fitting Q args) (tests .1);

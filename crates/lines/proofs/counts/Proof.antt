@@ -6,17 +6,17 @@ use borrow.Author.Needs.{needs}
 use Rattle.lines.proofs.counts.Statement.{statement}
 use Rattle.lines.proofs.counts.Tie as tie
 
-occurrences-of-requires : tie.Need-occurrences-of-requires
-occurrences-of-requires c κs = search needs
-
 returns : tie.Need-returns
-returns c = laws.over-functions (c .before .before .before .args .text .now) _ (c .before .occurrences-of .ensures) (c .if1 .taken)
+returns c = laws.over-functions _ _ (c .before .before .pre .1) (c .if1 .taken)
+
+returns-2 : tie.Need-returns-2
+returns-2 c = laws.few-symbols _ _ (c .before .before .before .pre .2) (c .if2 .taken) ∙ ap shown (laws.few-functions _ _ (c .before .before .before .pre .1) (c .before .if1 .left))
 
 symbol-count-requires : tie.Need-symbol-count-requires
 symbol-count-requires c κs = search needs
 
-returns-2 : tie.Need-returns-2
-returns-2 c = c .symbol-count .ensures ∙ ap shown (laws.few-functions (c .before .before .before .before .args .text .now) _ (c .before .before .occurrences-of .ensures) (c .before .if1 .left))
+returns-3 : tie.Need-returns-3
+returns-3 c = c .symbol-count .ensures ∙ ap shown (laws.few-functions _ _ (c .before .before .before .before .pre .1) (c .before .before .if1 .left))
 
 pub counts-spec : {M : Type 1} → statement M
-counts-spec = tie.close (tie.spec occurrences-of-requires returns symbol-count-requires returns-2)
+counts-spec = tie.close (tie.spec returns returns-2 symbol-count-requires returns-3)

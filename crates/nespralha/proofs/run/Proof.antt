@@ -4,41 +4,8 @@ use borrow.Author.Needs.{needs}
 use Rattle.nespralha.proofs.run.Statement.{statement}
 use Rattle.nespralha.proofs.run.Tie as tie
 
-slice-aggregate-read : tie.Need-slice-aggregate-read
-slice-aggregate-read c = search needs
-
-slice-aggregate-read-2 : tie.Need-slice-aggregate-read-2
-slice-aggregate-read-2 c = search needs
-
-slice-aggregate-read-3 : tie.Need-slice-aggregate-read-3
-slice-aggregate-read-3 c = search needs
-
-slice-aggregate-read-4 : tie.Need-slice-aggregate-read-4
-slice-aggregate-read-4 c = search needs
-
-slice-aggregate-read-5 : tie.Need-slice-aggregate-read-5
-slice-aggregate-read-5 c = search needs
-
-slice-aggregate-read-6 : tie.Need-slice-aggregate-read-6
-slice-aggregate-read-6 c = search needs
-
-read-requires : tie.Need-read-requires
-read-requires c κs = search needs
-
-slice-aggregate-run-table : tie.Need-slice-aggregate-run-table
-slice-aggregate-run-table c = search needs
-
-slice-aggregate-run-table-2 : tie.Need-slice-aggregate-run-table-2
-slice-aggregate-run-table-2 c = search needs
-
-slice-aggregate-run-table-3 : tie.Need-slice-aggregate-run-table-3
-slice-aggregate-run-table-3 c = search needs
-
-slice-aggregate-run-table-4 : tie.Need-slice-aggregate-run-table-4
-slice-aggregate-run-table-4 c = search needs
-
-run-table-requires : tie.Need-run-table-requires
-run-table-requires c κs = search needs
+run-short-requires : tie.Need-run-short-requires
+run-short-requires c κs = search needs
 
 same-length : tie.Need-same-length
 same-length c = search needs
@@ -48,24 +15,30 @@ same-length-2 c = search needs
 
 returns : tie.Need-returns
 unfolding RunOutcome
-returns c = let o = c .before .before .before .before .run-table .ensures (c .before .before .before .before .before .before .before .before .before .before .before .before .before .before .before .before .before .before .before .before .before .before .before .before .before .before .before .before .args .text .now) (c .before .before .before .before .before .before .before .before .before .before .before .before .before .before .before .before .before .read .last .1 .1 .1 .0) (record { judged = c .before .before .before .before .before .before .before .before .before .before .before .before .before .before .before .before .before .read .ensures .0; held = c .before .before .before .before .before .before .before .before .before .before .before .before .before .before .before .before .before .read .ensures .1 }) in (o .0, (o .1, o .2))
+returns c = let o = c .before .before .before .before .run-short .ensures in (o .0, (o .1, o .2))
+
+run-long-requires : tie.Need-run-long-requires
+run-long-requires c κs = search needs
+
+same-length-3 : tie.Need-same-length-3
+same-length-3 c = search needs
+
+same-length-4 : tie.Need-same-length-4
+same-length-4 c = search needs
+
+returns-2 : tie.Need-returns-2
+unfolding RunOutcome
+returns-2 c = let o = c .before .before .before .before .run-long .ensures in (o .0, (o .1, o .2))
 
 pub run-spec : {M : Type 1} → statement M
 run-spec =
     tie.close
     (tie.spec
-    slice-aggregate-read
-    slice-aggregate-read-2
-    slice-aggregate-read-3
-    slice-aggregate-read-4
-    slice-aggregate-read-5
-    slice-aggregate-read-6
-    read-requires
-    slice-aggregate-run-table
-    slice-aggregate-run-table-2
-    slice-aggregate-run-table-3
-    slice-aggregate-run-table-4
-    run-table-requires
+    run-short-requires
     same-length
     same-length-2
-    returns)
+    returns
+    run-long-requires
+    same-length-3
+    same-length-4
+    returns-2)

@@ -13,7 +13,7 @@ shared-slice-read-initial : tie.Need-shared-slice-read-initial
 shared-slice-read-initial c = omega (arith, ap length (c .before .before .before .before .before .before .before .before .pre .1 .0 .1), length-map (lines (c .before .before .before .before .before .before .before .before .args .text .now)) line-signature, c .before .before .before .before .before .before .before .before .pre .0 .2)
 
 initial-requires : tie.Need-initial-requires
-initial-requires c κs = (omega (arith, c .before .before .before .before .before .before .before .before .before .before .before .pre .1 .1 .words-fit), omega (arith, c .before .before .before .before .before .before .before .before .before .before .before .pre .1 .1 .values-fit), omega (arith, c .before .before .before .before .before .before .before .before .before .before .before .pre .1 .1 .ends-fit))
+initial-requires c κs = (omega (arith, laws.first-few (c .before .before .before .before .before .before .before .before .before .before .before .args .text .now) (c .before .before .before .before .before .before .before .before .before .before .before .args .heads .now) (c .before .before .before .before .before .before .before .before .before .before .before .pre .0 .1) (c .before .before .before .before .before .before .before .before .before .before .before .pre .0 .2) (c .before .before .before .before .before .before .before .before .before .before .before .pre .1 .0 .1), c .before .before .before .before .before .before .before .before .before .before .before .pre .1 .1 .words-fit), omega (arith, laws.first-few (c .before .before .before .before .before .before .before .before .before .before .before .args .text .now) (c .before .before .before .before .before .before .before .before .before .before .before .args .heads .now) (c .before .before .before .before .before .before .before .before .before .before .before .pre .0 .1) (c .before .before .before .before .before .before .before .before .before .before .before .pre .0 .2) (c .before .before .before .before .before .before .before .before .before .before .before .pre .1 .0 .1), c .before .before .before .before .before .before .before .before .before .before .before .pre .1 .1 .values-fit), omega (arith, laws.first-few (c .before .before .before .before .before .before .before .before .before .before .before .args .text .now) (c .before .before .before .before .before .before .before .before .before .before .before .args .heads .now) (c .before .before .before .before .before .before .before .before .before .before .before .pre .0 .1) (c .before .before .before .before .before .before .before .before .before .before .before .pre .0 .2) (c .before .before .before .before .before .before .before .before .before .before .before .pre .1 .0 .1), c .before .before .before .before .before .before .before .before .before .before .before .pre .1 .1 .ends-fit))
 
 read-lines-requires : tie.Need-read-lines-requires
 read-lines-requires c κs = ((c .before .before .before .before .before .before .before .before .before .before .before .before .before .before .before .before .before .before .before .before .before .before .pre .0 .0, c .before .before .before .before .before .before .before .before .before .before .before .before .before .before .before .before .before .before .before .before .before .before .pre .0 .1, c .before .before .before .before .before .before .before .before .before .before .before .before .before .before .before .before .before .before .before .before .before .before .pre .0 .1, refl), ((c .before .before .before .before .before .before .before .before .before .before .before .before .before .before .before .before .before .before .before .before .before .before .pre .1 .0 .0, c .before .before .before .before .before .before .before .before .before .before .before .before .before .before .before .before .before .before .before .before .before .before .pre .1 .0 .1, c .before .before .before .before .before .before .before .before .before .before .before .before .before .before .before .before .before .before .before .before .before .before .pre .0 .3, omega arith), (omega (arith, c .before .before .before .before .before .before .before .before .before .before .before .before .before .before .before .before .before .before .before .before .before .before .pre .0 .3, c .before .before .before .before .before .before .before .before .before .before .before .before .before .before .before .before .before .before .before .before .before .before .pre .1 .1 .bodies-fit), omega (arith, c .before .before .before .before .before .before .before .before .before .before .initial .ensures .0, laws.first-few (c .before .before .before .before .before .before .before .before .before .before .before .before .before .before .before .before .before .before .before .before .before .before .args .text .now) (c .before .before .before .before .before .before .before .before .before .before .before .before .before .before .before .before .before .before .before .before .before .before .args .heads .now) (c .before .before .before .before .before .before .before .before .before .before .before .before .before .before .before .before .before .before .before .before .before .before .pre .0 .1) (c .before .before .before .before .before .before .before .before .before .before .before .before .before .before .before .before .before .before .before .before .before .before .pre .0 .2) (c .before .before .before .before .before .before .before .before .before .before .before .before .before .before .before .before .before .before .before .before .before .before .pre .1 .0 .1), c .before .before .before .before .before .before .before .before .before .before .before .before .before .before .before .before .before .before .before .before .before .before .pre .0 .4, c .before .before .before .before .before .before .before .before .before .before .before .before .before .before .before .before .before .before .before .before .before .before .pre .1 .1 .words-fit), omega (arith, c .before .before .before .before .before .before .before .before .before .before .initial .ensures .0, laws.first-few (c .before .before .before .before .before .before .before .before .before .before .before .before .before .before .before .before .before .before .before .before .before .before .args .text .now) (c .before .before .before .before .before .before .before .before .before .before .before .before .before .before .before .before .before .before .before .before .before .before .args .heads .now) (c .before .before .before .before .before .before .before .before .before .before .before .before .before .before .before .before .before .before .before .before .before .before .pre .0 .1) (c .before .before .before .before .before .before .before .before .before .before .before .before .before .before .before .before .before .before .before .before .before .before .pre .0 .2) (c .before .before .before .before .before .before .before .before .before .before .before .before .before .before .before .before .before .before .before .before .before .before .pre .1 .0 .1), c .before .before .before .before .before .before .before .before .before .before .before .before .before .before .before .before .before .before .before .before .before .before .pre .0 .4, c .before .before .before .before .before .before .before .before .before .before .before .before .before .before .before .before .before .before .before .before .before .before .pre .1 .1 .values-fit), omega (arith, c .before .before .before .before .before .before .before .before .before .before .initial .ensures .0, laws.first-few (c .before .before .before .before .before .before .before .before .before .before .before .before .before .before .before .before .before .before .before .before .before .before .args .text .now) (c .before .before .before .before .before .before .before .before .before .before .before .before .before .before .before .before .before .before .before .before .before .before .args .heads .now) (c .before .before .before .before .before .before .before .before .before .before .before .before .before .before .before .before .before .before .before .before .before .before .pre .0 .1) (c .before .before .before .before .before .before .before .before .before .before .before .before .before .before .before .before .before .before .before .before .before .before .pre .0 .2) (c .before .before .before .before .before .before .before .before .before .before .before .before .before .before .before .before .before .before .before .before .before .before .pre .1 .0 .1), c .before .before .before .before .before .before .before .before .before .before .before .before .before .before .before .before .before .before .before .before .before .before .pre .0 .4, c .before .before .before .before .before .before .before .before .before .before .before .before .before .before .before .before .before .before .before .before .before .before .pre .1 .1 .ends-fit), omega (arith, c .before .before .before .before .before .before .before .before .before .before .initial .ensures .0, laws.first-few (c .before .before .before .before .before .before .before .before .before .before .before .before .before .before .before .before .before .before .before .before .before .before .args .text .now) (c .before .before .before .before .before .before .before .before .before .before .before .before .before .before .before .before .before .before .before .before .before .before .args .heads .now) (c .before .before .before .before .before .before .before .before .before .before .before .before .before .before .before .before .before .before .before .before .before .before .pre .0 .1) (c .before .before .before .before .before .before .before .before .before .before .before .before .before .before .before .before .before .before .before .before .before .before .pre .0 .2) (c .before .before .before .before .before .before .before .before .before .before .before .before .before .before .before .before .before .before .before .before .before .before .pre .1 .0 .1), c .before .before .before .before .before .before .before .before .before .before .before .before .before .before .before .before .before .before .before .before .before .before .pre .0 .4))))

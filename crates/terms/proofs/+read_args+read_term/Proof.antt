@@ -1,11 +1,12 @@
 -- `terms::read_args` and `terms::read_term` meet their contracts. Assumes nothing.
-use native.Mathlib.Omega.{arith}
-use mathlib.Core.Path.{refl, sym, _∙_}
-use Rattle.terms.specs.Terms.{Within}
 use Rattle.terms.proofs.Laws as laws
+use Rattle.terms.specs.Terms.{wrong-code}
 use borrow.Author.Needs.{needs}
+use native.Mathlib.Omega.{arith}
+use mathlib.Core.Path.{sym, _∙_}
 use Prim.Native.Nat.{ℕ, _+_, _-_, _*_, _<_}
 use lib.ListN.{length}
+use Prim.Native.Nat.{ℕ, _<_}
 use borrow.Fn.Kinds.{In}
 use borrow.Fn.PlainCycle.{Measures, is, falls, and}
 use Rattle.terms.proofs.read_args.Reads as read-args
@@ -14,6 +15,7 @@ use Rattle.terms.proofs.+read_args+read_term.Lts-read_args as read-args
 use Rattle.terms.proofs.read_term.Reads as read-term
 use Rattle.terms.proofs.read_term.Kinds as read-term-kinds
 use Rattle.terms.proofs.+read_args+read_term.Lts-read_term as read-term-lts
+use Rattle.terms.proofs.fault.Reads as fault-reads
 use Rattle.terms.proofs.judge.Reads as judge-reads
 use Rattle.terms.proofs.narrow.Reads as narrow-reads
 use Rattle.terms.proofs.+read_args+read_term.{statement}
@@ -45,8 +47,7 @@ read-args-returns : (t : ℕ) → read-args-lts.Need-returns (
   read-args-below t,
   read-args.Post,
 ) (read-args-at t) read-args.Post
-unfolding Within
-read-args-returns t c = (laws.args-none _ _ _ _ _ _ _ _ (c .if1 .taken), (omega arith, omega arith))
+read-args-returns t c = (laws.args-none _ _ _ _ _ _ _ _ _ (c .if1 .taken) (laws.says-next _ (omega arith)), laws.place-within _ _ _ _ (laws.says-next _ (omega arith)) (omega arith) (omega arith))
 
 read-args-read-term-requires : (t : ℕ) → read-args-lts.Need-read-term-requires (
   read-term-below t,
@@ -55,14 +56,6 @@ read-args-read-term-requires : (t : ℕ) → read-args-lts.Need-read-term-requir
   read-args.Post,
 ) (read-args-at t) read-args.Post
 read-args-read-term-requires t c κs = search needs
-
-read-args-enum-known-next : (t : ℕ) → read-args-lts.Need-enum-known-next (
-  read-term-below t,
-  read-term.Post,
-  read-args-below t,
-  read-args.Post,
-) (read-args-at t) read-args.Post
-read-args-enum-known-next t c = search needs
 
 read-args-sub-read-args : (t : ℕ) → read-args-lts.Need-sub-read-args (
   read-term-below t,
@@ -78,15 +71,7 @@ read-args-read-args-requires : (t : ℕ) → read-args-lts.Need-read-args-requir
   read-args-below t,
   read-args.Post,
 ) (read-args-at t) read-args.Post
-read-args-read-args-requires t c κs = (omega arith, (omega arith, omega arith, omega (arith, laws.within-next _ _ _ _ (c .before .before .before .before .before .before .read-term .ensures .1) (c .before .before .next .given .1) .0)))
-
-read-args-enum-known-w : (t : ℕ) → read-args-lts.Need-enum-known-w (
-  read-term-below t,
-  read-term.Post,
-  read-args-below t,
-  read-args.Post,
-) (read-args-at t) read-args.Post
-read-args-enum-known-w t c = search needs
+read-args-read-args-requires t c κs = (omega arith, (omega arith, omega arith, omega (arith, laws.within-next _ _ _ _ (c .before .before .before .before .read-term .ensures .1) (laws.says-next _ (c .before .if2 .taken)) .0)))
 
 read-args-same-length : (t : ℕ) → read-args-lts.Need-same-length (
   read-term-below t,
@@ -102,8 +87,7 @@ read-args-returns-2 : (t : ℕ) → read-args-lts.Need-returns-2 (
   read-args-below t,
   read-args.Post,
 ) (read-args-at t) read-args.Post
-unfolding Within
-read-args-returns-2 t c = (laws.args-more (c .before .before .before .before .before .before .before .before .before .before .before .before .before .before .before .args .words .now) (c .before .before .before .before .before .before .before .before .before .before .before .before .before .before .before .args .heads .now) (c .before .before .before .before .before .before .before .before .before .before .before .before .before .before .before .args .own) (c .before .before .before .before .before .before .before .before .before .before .before .before .before .before .before .args .at) (c .before .before .before .before .before .before .before .before .before .before .before .before .before .before .before .args .depth) (c .before .before .before .before .before .before .before .before .before .before .before .before .before .before .before .args .count) (c .before .before .before .before .before .before .before .before .before .before .before .before .before .before .before .args .mask) _ (c .before .before .before .before .before .before .before .before .before .before .before .before .before .before .before .args .ends .now) _ _ _ _ (omega arith) (c .before .before .before .before .before .before .before .before .before .before .before .if1 .left) (c .before .before .before .before .before .before .before .before .before .read-term .ensures .0) (c .before .before .before .before .before .next .given .1) (c .before .before .read-args .ensures .0), laws.within-more (length (c .before .before .before .before .before .before .before .before .before .before .before .before .before .before .before .args .words .now)) (c .before .before .before .before .before .before .before .before .before .before .before .before .before .before .before .args .at) (c .before .before .before .before .before .next .given .0 .0) (c .before .before .read-args .result) (laws.within-next _ _ _ _ (c .before .before .before .before .before .before .before .before .before .read-term .ensures .1) (c .before .before .before .before .before .next .given .1) .1) (c .before .before .read-args .ensures .1))
+read-args-returns-2 t c = (laws.args-more (c .before .before .before .before .before .before .before .before .before .before .before .before .before .args .words .now) (c .before .before .before .before .before .before .before .before .before .before .before .before .before .args .heads .now) (c .before .before .before .before .before .before .before .before .before .before .before .before .before .args .own) (c .before .before .before .before .before .before .before .before .before .before .before .before .before .args .at) (c .before .before .before .before .before .before .before .before .before .before .before .before .before .args .depth) (c .before .before .before .before .before .before .before .before .before .before .before .before .before .args .count) (c .before .before .before .before .before .before .before .before .before .before .before .before .before .args .mask) _ (c .before .before .before .before .before .before .before .before .before .before .before .before .before .args .ends .now) _ _ _ _ (omega arith) (c .before .before .before .before .before .before .before .before .before .if1 .left) (c .before .before .before .before .before .before .before .read-term .ensures .0) (laws.says-next _ (c .before .before .before .before .if2 .taken)) (c .before .before .read-args .ensures .0), laws.within-more (length (c .before .before .before .before .before .before .before .before .before .before .before .before .before .args .words .now)) (c .before .before .before .before .before .before .before .before .before .before .before .before .before .args .at) _ _ (laws.within-next _ _ _ _ (c .before .before .before .before .before .before .before .read-term .ensures .1) (laws.says-next _ (c .before .before .before .before .if2 .taken)) .1) (c .before .before .read-args .ensures .1))
 
 read-args-same-length-2 : (t : ℕ) → read-args-lts.Need-same-length-2 (
   read-term-below t,
@@ -119,10 +103,23 @@ read-args-returns-3 : (t : ℕ) → read-args-lts.Need-returns-3 (
   read-args-below t,
   read-args.Post,
 ) (read-args-at t) read-args.Post
-unfolding Within
-read-args-returns-3 t c = (laws.args-fault (c .before .before .before .before .before .before .before .before .before .before .before .args .words .now) (c .before .before .before .before .before .before .before .before .before .before .before .args .heads .now) (c .before .before .before .before .before .before .before .before .before .before .before .args .own) (c .before .before .before .before .before .before .before .before .before .before .before .args .at) (c .before .before .before .before .before .before .before .before .before .before .before .args .depth) (c .before .before .before .before .before .before .before .before .before .before .before .args .count) (c .before .before .before .before .before .before .before .before .before .before .before .args .mask) _ _ (c .before .before .before .before .before .before .before .before .before .before .before .args .ends .now) _ _ (c .before .before .before .before .before .before .before .if1 .left) (c .before .before .before .before .before .read-term .ensures .0) (c .before .w .given .1), laws.within-fault _ _ _ _ _ (c .before .before .before .before .before .read-term .ensures .1) (c .before .w .given .1))
+read-args-returns-3 t c = (laws.args-fault (c .before .before .before .before .before .before .before .before .before .args .words .now) (c .before .before .before .before .before .before .before .before .before .args .heads .now) (c .before .before .before .before .before .before .before .before .before .args .own) (c .before .before .before .before .before .before .before .before .before .args .at) (c .before .before .before .before .before .before .before .before .before .args .depth) (c .before .before .before .before .before .before .before .before .before .args .count) (c .before .before .before .before .before .before .before .before .before .args .mask) _ _ (c .before .before .before .before .before .before .before .before .before .args .ends .now) _ _ (c .before .before .before .before .before .if1 .left) (c .before .before .before .read-term .ensures .0) (laws.says-fault _ (c .if2 .left)), c .before .before .before .read-term .ensures .1)
+
+read-term-fault-requires : (t : ℕ) → read-term-lts.Need-fault-requires (
+  fault-reads.Asked,
+  fault-reads.Learnt,
+  judge-reads.Asked,
+  judge-reads.Learnt,
+  narrow-reads.Asked,
+  narrow-reads.Learnt,
+  read-args-below t,
+  read-args.Post,
+) (read-term-at t) read-term.Post
+read-term-fault-requires t c κs = search needs
 
 read-term-returns : (t : ℕ) → read-term-lts.Need-returns (
+  fault-reads.Asked,
+  fault-reads.Learnt,
   judge-reads.Asked,
   judge-reads.Learnt,
   narrow-reads.Asked,
@@ -130,10 +127,24 @@ read-term-returns : (t : ℕ) → read-term-lts.Need-returns (
   read-args-below t,
   read-args.Post,
 ) (read-term-at t) read-term.Post
-unfolding Within
-read-term-returns t c = (laws.term-none _ _ _ _ _ _ _ _ (c .if1 .taken), omega arith)
+unfolding wrong-code
+read-term-returns t c = (laws.term-none _ _ _ _ _ _ _ _ _ (c .before .if1 .taken) (c .fault .ensures), laws.fault-within _ _ _ _ _ (c .fault .ensures) (omega arith))
+
+read-term-fault-requires-2 : (t : ℕ) → read-term-lts.Need-fault-requires-2 (
+  fault-reads.Asked,
+  fault-reads.Learnt,
+  judge-reads.Asked,
+  judge-reads.Learnt,
+  narrow-reads.Asked,
+  narrow-reads.Learnt,
+  read-args-below t,
+  read-args.Post,
+) (read-term-at t) read-term.Post
+read-term-fault-requires-2 t c κs = search needs
 
 read-term-returns-2 : (t : ℕ) → read-term-lts.Need-returns-2 (
+  fault-reads.Asked,
+  fault-reads.Learnt,
   judge-reads.Asked,
   judge-reads.Learnt,
   narrow-reads.Asked,
@@ -141,10 +152,12 @@ read-term-returns-2 : (t : ℕ) → read-term-lts.Need-returns-2 (
   read-args-below t,
   read-args.Post,
 ) (read-term-at t) read-term.Post
-unfolding Within
-read-term-returns-2 t c = (laws.term-deep _ _ _ _ _ _ _ _ (c .before .if1 .left) (c .if2 .taken), omega arith)
+unfolding wrong-code
+read-term-returns-2 t c = (laws.term-deep _ _ _ _ _ _ _ _ _ (c .before .before .if1 .left) (c .before .if2 .taken) (c .fault2 .ensures), laws.fault-within _ _ _ _ _ (c .fault2 .ensures) (omega (arith, c .before .before .if1 .left)))
 
 read-term-mul-judge : (t : ℕ) → read-term-lts.Need-mul-judge (
+  fault-reads.Asked,
+  fault-reads.Learnt,
   judge-reads.Asked,
   judge-reads.Learnt,
   narrow-reads.Asked,
@@ -155,6 +168,8 @@ read-term-mul-judge : (t : ℕ) → read-term-lts.Need-mul-judge (
 read-term-mul-judge t c = search needs
 
 read-term-shared-slice-read-judge : (t : ℕ) → read-term-lts.Need-shared-slice-read-judge (
+  fault-reads.Asked,
+  fault-reads.Learnt,
   judge-reads.Asked,
   judge-reads.Learnt,
   narrow-reads.Asked,
@@ -165,6 +180,8 @@ read-term-shared-slice-read-judge : (t : ℕ) → read-term-lts.Need-shared-slic
 read-term-shared-slice-read-judge t c = search needs
 
 read-term-judge-requires : (t : ℕ) → read-term-lts.Need-judge-requires (
+  fault-reads.Asked,
+  fault-reads.Learnt,
   judge-reads.Asked,
   judge-reads.Learnt,
   narrow-reads.Asked,
@@ -174,7 +191,9 @@ read-term-judge-requires : (t : ℕ) → read-term-lts.Need-judge-requires (
 ) (read-term-at t) read-term.Post
 read-term-judge-requires t c κs = search needs
 
-read-term-enum-known-w : (t : ℕ) → read-term-lts.Need-enum-known-w (
+read-term-enum-known-wrong : (t : ℕ) → read-term-lts.Need-enum-known-wrong (
+  fault-reads.Asked,
+  fault-reads.Learnt,
   judge-reads.Asked,
   judge-reads.Learnt,
   narrow-reads.Asked,
@@ -182,9 +201,23 @@ read-term-enum-known-w : (t : ℕ) → read-term-lts.Need-enum-known-w (
   read-args-below t,
   read-args.Post,
 ) (read-term-at t) read-term.Post
-read-term-enum-known-w t c = search needs
+read-term-enum-known-wrong t c = search needs
+
+read-term-fault-requires-3 : (t : ℕ) → read-term-lts.Need-fault-requires-3 (
+  fault-reads.Asked,
+  fault-reads.Learnt,
+  judge-reads.Asked,
+  judge-reads.Learnt,
+  narrow-reads.Asked,
+  narrow-reads.Learnt,
+  read-args-below t,
+  read-args.Post,
+) (read-term-at t) read-term.Post
+read-term-fault-requires-3 t c κs = let k = laws.coded _ _ _ _ _ _ (c .before .before .before .judge .ensures) (c .before .wrong .given .1) in (k .0, k .1, omega arith)
 
 read-term-enum-known-count : (t : ℕ) → read-term-lts.Need-enum-known-count (
+  fault-reads.Asked,
+  fault-reads.Learnt,
   judge-reads.Asked,
   judge-reads.Learnt,
   narrow-reads.Asked,
@@ -195,6 +228,8 @@ read-term-enum-known-count : (t : ℕ) → read-term-lts.Need-enum-known-count (
 read-term-enum-known-count t c = search needs
 
 read-term-add-narrow : (t : ℕ) → read-term-lts.Need-add-narrow (
+  fault-reads.Asked,
+  fault-reads.Learnt,
   judge-reads.Asked,
   judge-reads.Learnt,
   narrow-reads.Asked,
@@ -205,6 +240,8 @@ read-term-add-narrow : (t : ℕ) → read-term-lts.Need-add-narrow (
 read-term-add-narrow t c = search needs
 
 read-term-narrow-requires : (t : ℕ) → read-term-lts.Need-narrow-requires (
+  fault-reads.Asked,
+  fault-reads.Learnt,
   judge-reads.Asked,
   judge-reads.Learnt,
   narrow-reads.Asked,
@@ -215,6 +252,8 @@ read-term-narrow-requires : (t : ℕ) → read-term-lts.Need-narrow-requires (
 read-term-narrow-requires t c κs = search needs
 
 read-term-mul-ends : (t : ℕ) → read-term-lts.Need-mul-ends (
+  fault-reads.Asked,
+  fault-reads.Learnt,
   judge-reads.Asked,
   judge-reads.Learnt,
   narrow-reads.Asked,
@@ -225,6 +264,8 @@ read-term-mul-ends : (t : ℕ) → read-term-lts.Need-mul-ends (
 read-term-mul-ends t c = search needs
 
 read-term-slice-write-ends : (t : ℕ) → read-term-lts.Need-slice-write-ends (
+  fault-reads.Asked,
+  fault-reads.Learnt,
   judge-reads.Asked,
   judge-reads.Learnt,
   narrow-reads.Asked,
@@ -234,7 +275,9 @@ read-term-slice-write-ends : (t : ℕ) → read-term-lts.Need-slice-write-ends (
 ) (read-term-at t) read-term.Post
 read-term-slice-write-ends t c = search needs
 
-read-term-add-t25 : (t : ℕ) → read-term-lts.Need-add-t25 (
+read-term-add-result : (t : ℕ) → read-term-lts.Need-add-result (
+  fault-reads.Asked,
+  fault-reads.Learnt,
   judge-reads.Asked,
   judge-reads.Learnt,
   narrow-reads.Asked,
@@ -242,9 +285,11 @@ read-term-add-t25 : (t : ℕ) → read-term-lts.Need-add-t25 (
   read-args-below t,
   read-args.Post,
 ) (read-term-at t) read-term.Post
-read-term-add-t25 t c = search needs
+read-term-add-result t c = search needs
 
 read-term-same-length : (t : ℕ) → read-term-lts.Need-same-length (
+  fault-reads.Asked,
+  fault-reads.Learnt,
   judge-reads.Asked,
   judge-reads.Learnt,
   narrow-reads.Asked,
@@ -255,6 +300,8 @@ read-term-same-length : (t : ℕ) → read-term-lts.Need-same-length (
 read-term-same-length t c = search needs
 
 read-term-returns-3 : (t : ℕ) → read-term-lts.Need-returns-3 (
+  fault-reads.Asked,
+  fault-reads.Learnt,
   judge-reads.Asked,
   judge-reads.Learnt,
   narrow-reads.Asked,
@@ -262,10 +309,11 @@ read-term-returns-3 : (t : ℕ) → read-term-lts.Need-returns-3 (
   read-args-below t,
   read-args.Post,
 ) (read-term-at t) read-term.Post
-unfolding Within
-read-term-returns-3 t c = (laws.term-got (c .before .before .before .before .before .before .before .before .before .before .before .before .args .words .now) (c .before .before .before .before .before .before .before .before .before .before .before .before .args .heads .now) (c .before .before .before .before .before .before .before .before .before .before .before .before .args .own) (c .before .before .before .before .before .before .before .before .before .before .before .before .args .at) (c .before .before .before .before .before .before .before .before .before .before .before .before .args .depth) (c .before .before .before .before .before .before .before .before .before .before .before .before .args .sort) _ _ _ _ (c .before .before .before .before .before .before .before .before .before .before .before .before .args .ends .now) _ _ (c .narrow .ensures) (c .before .before .before .before .before .before .before .before .if1 .left) (omega arith) (c .before .before .before .before .before .before .before .if2 .left) (sym (c .before .before .before .before .before .judge .ensures) ∙ c .before .before .before .count .given .1) (laws.args-none (c .before .before .before .before .before .before .before .before .before .before .before .before .args .words .now) (c .before .before .before .before .before .before .before .before .before .before .before .before .args .heads .now) (c .before .before .before .before .before .before .before .before .before .before .before .before .args .own) (c .before .before .before .before .before .before .before .before .before .before .before .before .args .at + 1) (c .before .before .before .before .before .before .before .before .before .before .before .before .args .depth - 1) _ _ (c .before .before .before .before .before .before .before .before .before .before .before .before .args .ends .now) (c .before .if3 .taken)) refl, (omega arith, omega arith))
+read-term-returns-3 t c = (laws.term-got (c .before .before .before .before .before .before .before .before .before .before .before .before .args .words .now) (c .before .before .before .before .before .before .before .before .before .before .before .before .args .heads .now) (c .before .before .before .before .before .before .before .before .before .before .before .before .args .own) (c .before .before .before .before .before .before .before .before .before .before .before .before .args .at) (c .before .before .before .before .before .before .before .before .before .before .before .before .args .depth) (c .before .before .before .before .before .before .before .before .before .before .before .before .args .sort) _ _ _ _ (c .before .before .before .before .before .before .before .before .before .before .before .before .args .ends .now) _ _ (c .narrow .ensures) (c .before .before .before .before .before .before .before .before .if1 .left) (omega arith) (c .before .before .before .before .before .before .before .if2 .left) (sym (c .before .before .before .before .before .judge .ensures) ∙ c .before .before .before .count .given .1) (laws.args-none (c .before .before .before .before .before .before .before .before .before .before .before .before .args .words .now) (c .before .before .before .before .before .before .before .before .before .before .before .before .args .heads .now) (c .before .before .before .before .before .before .before .before .before .before .before .before .args .own) (c .before .before .before .before .before .before .before .before .before .before .before .before .args .at + 1) (c .before .before .before .before .before .before .before .before .before .before .before .before .args .depth - 1) _ _ (c .before .before .before .before .before .before .before .before .before .before .before .before .args .ends .now) _ (c .before .if3 .taken) (laws.says-next _ (omega arith))) (laws.says-next _ (omega arith)), laws.place-within _ _ _ _ (laws.says-next _ (omega arith)) (omega arith) (omega arith))
 
 read-term-add-read-args : (t : ℕ) → read-term-lts.Need-add-read-args (
+  fault-reads.Asked,
+  fault-reads.Learnt,
   judge-reads.Asked,
   judge-reads.Learnt,
   narrow-reads.Asked,
@@ -276,6 +324,8 @@ read-term-add-read-args : (t : ℕ) → read-term-lts.Need-add-read-args (
 read-term-add-read-args t c = search needs
 
 read-term-sub-read-args : (t : ℕ) → read-term-lts.Need-sub-read-args (
+  fault-reads.Asked,
+  fault-reads.Learnt,
   judge-reads.Asked,
   judge-reads.Learnt,
   narrow-reads.Asked,
@@ -286,6 +336,8 @@ read-term-sub-read-args : (t : ℕ) → read-term-lts.Need-sub-read-args (
 read-term-sub-read-args t c = search needs
 
 read-term-read-args-requires : (t : ℕ) → read-term-lts.Need-read-args-requires (
+  fault-reads.Asked,
+  fault-reads.Learnt,
   judge-reads.Asked,
   judge-reads.Learnt,
   narrow-reads.Asked,
@@ -295,17 +347,9 @@ read-term-read-args-requires : (t : ℕ) → read-term-lts.Need-read-args-requir
 ) (read-term-at t) read-term.Post
 read-term-read-args-requires t c κs = (omega (arith, laws.few _ _ _ _ _ _ _ (c .before .before .before .before .before .judge .ensures) (c .before .before .before .count .given .1)), (omega arith, omega arith, omega arith))
 
-read-term-enum-known-next : (t : ℕ) → read-term-lts.Need-enum-known-next (
-  judge-reads.Asked,
-  judge-reads.Learnt,
-  narrow-reads.Asked,
-  narrow-reads.Learnt,
-  read-args-below t,
-  read-args.Post,
-) (read-term-at t) read-term.Post
-read-term-enum-known-next t c = search needs
-
 read-term-narrow-requires-2 : (t : ℕ) → read-term-lts.Need-narrow-requires-2 (
+  fault-reads.Asked,
+  fault-reads.Learnt,
   judge-reads.Asked,
   judge-reads.Learnt,
   narrow-reads.Asked,
@@ -313,9 +357,11 @@ read-term-narrow-requires-2 : (t : ℕ) → read-term-lts.Need-narrow-requires-2
   read-args-below t,
   read-args.Post,
 ) (read-term-at t) read-term.Post
-read-term-narrow-requires-2 t c κs = omega (arith, laws.within-next _ _ _ _ (c .before .before .before .before .before .read-args .ensures .1) (c .before .next .given .1) .0)
+read-term-narrow-requires-2 t c κs = search needs
 
 read-term-mul-ends-2 : (t : ℕ) → read-term-lts.Need-mul-ends-2 (
+  fault-reads.Asked,
+  fault-reads.Learnt,
   judge-reads.Asked,
   judge-reads.Learnt,
   narrow-reads.Asked,
@@ -326,6 +372,8 @@ read-term-mul-ends-2 : (t : ℕ) → read-term-lts.Need-mul-ends-2 (
 read-term-mul-ends-2 t c = search needs
 
 read-term-slice-write-ends-2 : (t : ℕ) → read-term-lts.Need-slice-write-ends-2 (
+  fault-reads.Asked,
+  fault-reads.Learnt,
   judge-reads.Asked,
   judge-reads.Learnt,
   narrow-reads.Asked,
@@ -335,28 +383,9 @@ read-term-slice-write-ends-2 : (t : ℕ) → read-term-lts.Need-slice-write-ends
 ) (read-term-at t) read-term.Post
 read-term-slice-write-ends-2 t c = search needs
 
-read-term-enum-known-w-2 : (t : ℕ) → read-term-lts.Need-enum-known-w-2 (
-  judge-reads.Asked,
-  judge-reads.Learnt,
-  narrow-reads.Asked,
-  narrow-reads.Learnt,
-  read-args-below t,
-  read-args.Post,
-) (read-term-at t) read-term.Post
-read-term-enum-known-w-2 t c = search needs
-
-read-term-returns-4 : (t : ℕ) → read-term-lts.Need-returns-4 (
-  judge-reads.Asked,
-  judge-reads.Learnt,
-  narrow-reads.Asked,
-  narrow-reads.Learnt,
-  read-args-below t,
-  read-args.Post,
-) (read-term-at t) read-term.Post
-unfolding Within
-read-term-returns-4 t c = (laws.term-bad (c .before .before .before .before .before .before .before .before .before .before .args .words .now) (c .before .before .before .before .before .before .before .before .before .before .args .heads .now) (c .before .before .before .before .before .before .before .before .before .before .args .own) _ _ _ _ _ _ (c .before .before .before .before .before .before .if1 .left) (c .before .before .before .before .before .if2 .left) (sym (c .before .before .before .judge .ensures) ∙ c .before .w .given .1), omega arith)
-
 read-term-same-length-2 : (t : ℕ) → read-term-lts.Need-same-length-2 (
+  fault-reads.Asked,
+  fault-reads.Learnt,
   judge-reads.Asked,
   judge-reads.Learnt,
   narrow-reads.Asked,
@@ -366,7 +395,9 @@ read-term-same-length-2 : (t : ℕ) → read-term-lts.Need-same-length-2 (
 ) (read-term-at t) read-term.Post
 read-term-same-length-2 t c = search needs
 
-read-term-returns-5 : (t : ℕ) → read-term-lts.Need-returns-5 (
+read-term-returns-4 : (t : ℕ) → read-term-lts.Need-returns-4 (
+  fault-reads.Asked,
+  fault-reads.Learnt,
   judge-reads.Asked,
   judge-reads.Learnt,
   narrow-reads.Asked,
@@ -374,10 +405,23 @@ read-term-returns-5 : (t : ℕ) → read-term-lts.Need-returns-5 (
   read-args-below t,
   read-args.Post,
 ) (read-term-at t) read-term.Post
-unfolding Within
-read-term-returns-5 t c = (laws.term-got (c .before .before .before .before .before .before .before .before .before .before .before .before .before .before .before .before .before .before .before .args .words .now) (c .before .before .before .before .before .before .before .before .before .before .before .before .before .before .before .before .before .before .before .args .heads .now) (c .before .before .before .before .before .before .before .before .before .before .before .before .before .before .before .before .before .before .before .args .own) (c .before .before .before .before .before .before .before .before .before .before .before .before .before .before .before .before .before .before .before .args .at) (c .before .before .before .before .before .before .before .before .before .before .before .before .before .before .before .before .before .before .before .args .depth) (c .before .before .before .before .before .before .before .before .before .before .before .before .before .before .before .before .before .before .before .args .sort) _ _ _ _ (c .before .before .before .before .before .before .before .before .before .before .before .before .before .before .before .before .before .before .before .args .ends .now) _ _ (c .narrow2 .ensures) (c .before .before .before .before .before .before .before .before .before .before .before .before .before .before .before .if1 .left) (omega arith) (c .before .before .before .before .before .before .before .before .before .before .before .before .before .before .if2 .left) (sym (c .before .before .before .before .before .before .before .before .before .before .before .before .judge .ensures) ∙ c .before .before .before .before .before .before .before .before .before .before .count .given .1) (c .before .before .before .before .before .before .read-args .ensures .0) (c .before .before .next .given .1), (laws.within-next _ _ _ _ (c .before .before .before .before .before .before .read-args .ensures .1) (c .before .before .next .given .1) .0, omega (arith, laws.within-next _ _ _ _ (c .before .before .before .before .before .before .read-args .ensures .1) (c .before .before .next .given .1) .1)))
+read-term-returns-4 t c = (laws.term-got (c .before .before .before .before .before .before .before .before .before .before .before .before .before .before .before .before .before .args .words .now) (c .before .before .before .before .before .before .before .before .before .before .before .before .before .before .before .before .before .args .heads .now) (c .before .before .before .before .before .before .before .before .before .before .before .before .before .before .before .before .before .args .own) (c .before .before .before .before .before .before .before .before .before .before .before .before .before .before .before .before .before .args .at) (c .before .before .before .before .before .before .before .before .before .before .before .before .before .before .before .before .before .args .depth) (c .before .before .before .before .before .before .before .before .before .before .before .before .before .before .before .before .before .args .sort) _ _ _ _ (c .before .before .before .before .before .before .before .before .before .before .before .before .before .before .before .before .before .args .ends .now) _ _ (c .narrow2 .ensures) (c .before .before .before .before .before .before .before .before .before .before .before .before .before .if1 .left) (omega arith) (c .before .before .before .before .before .before .before .before .before .before .before .before .if2 .left) (sym (c .before .before .before .before .before .before .before .before .before .before .judge .ensures) ∙ c .before .before .before .before .before .before .before .before .count .given .1) (c .before .before .before .before .read-args .ensures .0) (laws.says-next _ (c .before .if4 .taken)), laws.within-more _ _ _ _ (omega arith) (c .before .before .before .before .read-args .ensures .1))
+
+read-term-returns-5 : (t : ℕ) → read-term-lts.Need-returns-5 (
+  fault-reads.Asked,
+  fault-reads.Learnt,
+  judge-reads.Asked,
+  judge-reads.Learnt,
+  narrow-reads.Asked,
+  narrow-reads.Learnt,
+  read-args-below t,
+  read-args.Post,
+) (read-term-at t) read-term.Post
+read-term-returns-5 t c = (laws.term-bad (c .before .before .before .before .before .before .before .before .before .before .before .args .words .now) (c .before .before .before .before .before .before .before .before .before .before .before .args .heads .now) (c .before .before .before .before .before .before .before .before .before .before .before .args .own) _ _ _ _ _ _ _ (c .before .before .before .before .before .before .before .if1 .left) (c .before .before .before .before .before .before .if2 .left) (sym (c .before .before .before .before .judge .ensures) ∙ c .before .before .wrong .given .1) (c .fault3 .ensures), laws.fault-within _ _ _ _ _ (c .fault3 .ensures) (omega (arith, c .before .before .before .before .before .before .before .if1 .left)))
 
 read-term-same-length-3 : (t : ℕ) → read-term-lts.Need-same-length-3 (
+  fault-reads.Asked,
+  fault-reads.Learnt,
   judge-reads.Asked,
   judge-reads.Learnt,
   narrow-reads.Asked,
@@ -388,6 +432,8 @@ read-term-same-length-3 : (t : ℕ) → read-term-lts.Need-same-length-3 (
 read-term-same-length-3 t c = search needs
 
 read-term-returns-6 : (t : ℕ) → read-term-lts.Need-returns-6 (
+  fault-reads.Asked,
+  fault-reads.Learnt,
   judge-reads.Asked,
   judge-reads.Learnt,
   narrow-reads.Asked,
@@ -395,8 +441,7 @@ read-term-returns-6 : (t : ℕ) → read-term-lts.Need-returns-6 (
   read-args-below t,
   read-args.Post,
 ) (read-term-at t) read-term.Post
-unfolding Within
-read-term-returns-6 t c = (laws.term-fault (c .before .before .before .before .before .before .before .before .before .before .before .before .before .before .before .before .before .before .args .words .now) (c .before .before .before .before .before .before .before .before .before .before .before .before .before .before .before .before .before .before .args .heads .now) (c .before .before .before .before .before .before .before .before .before .before .before .before .before .before .before .before .before .before .args .own) (c .before .before .before .before .before .before .before .before .before .before .before .before .before .before .before .before .before .before .args .at) (c .before .before .before .before .before .before .before .before .before .before .before .before .before .before .before .before .before .before .args .depth) (c .before .before .before .before .before .before .before .before .before .before .before .before .before .before .before .before .before .before .args .sort) _ _ _ _ (c .before .before .before .before .before .before .before .before .before .before .before .before .before .before .before .before .before .before .args .ends .now) _ _ (c .before .before .before .before .before .before .before .before .before .before .before .before .before .before .if1 .left) (c .before .before .before .before .before .before .before .before .before .before .before .before .before .if2 .left) (sym (c .before .before .before .before .before .before .before .before .before .before .before .judge .ensures) ∙ c .before .before .before .before .before .before .before .before .before .count .given .1) (c .before .before .before .before .before .read-args .ensures .0) (c .before .w2 .given .1), laws.within-fault _ _ _ _ _ (c .before .before .before .before .before .read-args .ensures .1) (c .before .w2 .given .1))
+read-term-returns-6 t c = (laws.term-fault (c .before .before .before .before .before .before .before .before .before .before .before .before .before .before .before .before .args .words .now) (c .before .before .before .before .before .before .before .before .before .before .before .before .before .before .before .before .args .heads .now) (c .before .before .before .before .before .before .before .before .before .before .before .before .before .before .before .before .args .own) (c .before .before .before .before .before .before .before .before .before .before .before .before .before .before .before .before .args .at) (c .before .before .before .before .before .before .before .before .before .before .before .before .before .before .before .before .args .depth) (c .before .before .before .before .before .before .before .before .before .before .before .before .before .before .before .before .args .sort) _ _ _ _ (c .before .before .before .before .before .before .before .before .before .before .before .before .before .before .before .before .args .ends .now) _ _ (c .before .before .before .before .before .before .before .before .before .before .before .before .if1 .left) (c .before .before .before .before .before .before .before .before .before .before .before .if2 .left) (sym (c .before .before .before .before .before .before .before .before .before .judge .ensures) ∙ c .before .before .before .before .before .before .before .count .given .1) (c .before .before .before .read-args .ensures .0) (laws.says-fault _ (c .if4 .left)), laws.within-more _ _ _ _ (omega arith) (c .before .before .before .read-args .ensures .1))
 
 pub +read-args+read-term-spec : {M : Type 1} → statement M
 +read-args+read-term-spec = close μ-read-args μ-read-term (λ t. read-args-lts.spec (
@@ -409,15 +454,15 @@ pub +read-args+read-term-spec : {M : Type 1} → statement M
     read-args.Post
     (read-args-returns t)
     (read-args-read-term-requires t)
-    (read-args-enum-known-next t)
     (read-args-sub-read-args t)
     (read-args-read-args-requires t)
-    (read-args-enum-known-w t)
     (read-args-same-length t)
     (read-args-returns-2 t)
     (read-args-same-length-2 t)
     (read-args-returns-3 t))
     λ t. read-term-lts.spec (
+      fault-reads.Asked,
+      fault-reads.Learnt,
       judge-reads.Asked,
       judge-reads.Learnt,
       narrow-reads.Asked,
@@ -427,30 +472,31 @@ pub +read-args+read-term-spec : {M : Type 1} → statement M
     )
     (read-term-at t)
     read-term.Post
+    (read-term-fault-requires t)
     (read-term-returns t)
+    (read-term-fault-requires-2 t)
     (read-term-returns-2 t)
     (read-term-mul-judge t)
     (read-term-shared-slice-read-judge t)
     (read-term-judge-requires t)
-    (read-term-enum-known-w t)
+    (read-term-enum-known-wrong t)
+    (read-term-fault-requires-3 t)
     (read-term-enum-known-count t)
     (read-term-add-narrow t)
     (read-term-narrow-requires t)
     (read-term-mul-ends t)
     (read-term-slice-write-ends t)
-    (read-term-add-t25 t)
+    (read-term-add-result t)
     (read-term-same-length t)
     (read-term-returns-3 t)
     (read-term-add-read-args t)
     (read-term-sub-read-args t)
     (read-term-read-args-requires t)
-    (read-term-enum-known-next t)
     (read-term-narrow-requires-2 t)
     (read-term-mul-ends-2 t)
     (read-term-slice-write-ends-2 t)
-    (read-term-enum-known-w-2 t)
-    (read-term-returns-4 t)
     (read-term-same-length-2 t)
+    (read-term-returns-4 t)
     (read-term-returns-5 t)
     (read-term-same-length-3 t)
     (read-term-returns-6 t)

@@ -1,16 +1,15 @@
 -- `terms::signed` meets its contract. Assumes nothing.
 use borrow.Author.Tests.{eq-eqb, ne-eqb}
-use Rattle.terms.specs.Terms.{signed-by}
-use Prim.Native.Nat.{_-_}
+use Rattle.terms.specs.Terms.{signed-by, wrong-code}
 use Rattle.terms.proofs.signed.Statement.{statement}
 use Rattle.terms.proofs.signed.Tie as tie
 
 returns : tie.Need-returns
-unfolding signed-by
+unfolding signed-by wrong-code
 returns c = simp (eq-eqb _ _ (c .if1 .taken))
 
 returns-2 : tie.Need-returns-2
-unfolding signed-by
+unfolding signed-by wrong-code
 returns-2 c = simp (ne-eqb _ _ (c .if1 .left))
 
 pub signed-spec : {M : Type 1} → statement M

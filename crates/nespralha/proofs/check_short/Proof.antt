@@ -1,12 +1,14 @@
--- `nespralha::check_text` meets its contract. Assumes nothing.
+-- `nespralha::check_short` meets its contract. Assumes nothing.
 use mathlib.Core.Path.{subst, sym}
 use Prim.Native.Nat.{_≤_}
 use Rattle.meaning.specs.Numbers.{most-functions}
 use Rattle.meaning.specs.declared.Checked.{Checked}
 use borrow.Author.Needs.{needs}
-use Rattle.nespralha.proofs.check_text.Statement.{statement}
+use Rattle.reading.proofs.Laws.{fits-short}
+use Rattle.nespralha.specs.Fitting.{short-text}
+use Rattle.nespralha.proofs.check_short.Statement.{statement}
 use Rattle.nespralha.proofs.Laws as laws
-use Rattle.nespralha.proofs.check_text.Tie as tie
+use Rattle.nespralha.proofs.check_short.Tie as tie
 
 slice-aggregate-read : tie.Need-slice-aggregate-read
 slice-aggregate-read c = search needs
@@ -27,7 +29,7 @@ slice-aggregate-read-6 : tie.Need-slice-aggregate-read-6
 slice-aggregate-read-6 c = search needs
 
 read-requires : tie.Need-read-requires
-read-requires c κs = search needs
+read-requires c κs = fits-short _ _ _ _ _ _ _ (search needs) (search needs) (search needs) short-text (search needs) (search needs) (search needs) (search needs)
 
 slice-aggregate-check-table : tie.Need-slice-aggregate-check-table
 slice-aggregate-check-table c = search needs
@@ -41,8 +43,8 @@ check-table-requires c κs = (subst (λ (x : Checked). x .functions ≤ most-fun
 returns : tie.Need-returns
 returns c = c .check-table .ensures (c .before .before .before .before .before .before .before .before .before .before .before .before .before .before .before .before .before .args .text .now) (c .before .before .before .before .before .before .before .before .before .read .last .1 .1 .1 .1 .0) (c .before .before .before .before .before .before .before .before .before .read .last .1 .1 .1 .1 .1 .0) (c .before .before .before .before .before .before .before .before .before .read .last .1 .1 .1 .1 .1 .1 .0) (record { judged = c .before .before .before .before .before .before .before .before .before .read .ensures .0; held = c .before .before .before .before .before .before .before .before .before .read .ensures .1 })
 
-pub check-text-spec : {M : Type 1} → statement M
-check-text-spec =
+pub check-short-spec : {M : Type 1} → statement M
+check-short-spec =
     tie.close
     (tie.spec
     slice-aggregate-read

@@ -1,9 +1,9 @@
--- `lines::wrong_in` meets its contract. Assumes nothing.
+-- `lines::judge_line` meets its contract. Assumes nothing.
 use mathlib.Core.Path.{_∙_}
 use Rattle.lines.proofs.Laws as laws
 use borrow.Author.Needs.{needs}
-use Rattle.lines.proofs.wrong_in.Statement.{statement}
-use Rattle.lines.proofs.wrong_in.Tie as tie
+use Rattle.lines.proofs.judge_line.Statement.{statement}
+use Rattle.lines.proofs.judge_line.Tie as tie
 
 piece-end-requires : tie.Need-piece-end-requires
 piece-end-requires c κs = search needs
@@ -29,8 +29,8 @@ returns c = c .from-2 .ensures ∙ laws.name-fits (c .before .before .before .be
 returns-2 : tie.Need-returns-2
 returns-2 c = laws.name-wrong (c .before .before .before .before .before .args .line .now) _ (c .before .before .before .piece-end .ensures .0) _ (c .before .name .ensures) (c .if1 .left)
 
-pub wrong-in-spec : {M : Type 1} → statement M
-wrong-in-spec =
+pub judge-line-spec : {M : Type 1} → statement M
+judge-line-spec =
     tie.close
     (tie.spec
     piece-end-requires

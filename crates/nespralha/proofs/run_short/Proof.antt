@@ -1,0 +1,71 @@
+-- `nespralha::run_short` meets its contract. Assumes nothing.
+use borrow.Author.Needs.{needs}
+use Rattle.reading.proofs.Laws.{fits-short}
+use Rattle.nespralha.specs.Fitting.{short-text}
+use Rattle.nespralha.proofs.run_short.Statement.{statement}
+use Rattle.nespralha.proofs.run_short.Tie as tie
+
+slice-aggregate-read : tie.Need-slice-aggregate-read
+slice-aggregate-read c = search needs
+
+slice-aggregate-read-2 : tie.Need-slice-aggregate-read-2
+slice-aggregate-read-2 c = search needs
+
+slice-aggregate-read-3 : tie.Need-slice-aggregate-read-3
+slice-aggregate-read-3 c = search needs
+
+slice-aggregate-read-4 : tie.Need-slice-aggregate-read-4
+slice-aggregate-read-4 c = search needs
+
+slice-aggregate-read-5 : tie.Need-slice-aggregate-read-5
+slice-aggregate-read-5 c = search needs
+
+slice-aggregate-read-6 : tie.Need-slice-aggregate-read-6
+slice-aggregate-read-6 c = search needs
+
+read-requires : tie.Need-read-requires
+read-requires c κs = fits-short _ _ _ _ _ _ _ (search needs) (search needs) (search needs) short-text (search needs) (search needs) (search needs) (search needs)
+
+slice-aggregate-run-table : tie.Need-slice-aggregate-run-table
+slice-aggregate-run-table c = search needs
+
+slice-aggregate-run-table-2 : tie.Need-slice-aggregate-run-table-2
+slice-aggregate-run-table-2 c = search needs
+
+slice-aggregate-run-table-3 : tie.Need-slice-aggregate-run-table-3
+slice-aggregate-run-table-3 c = search needs
+
+slice-aggregate-run-table-4 : tie.Need-slice-aggregate-run-table-4
+slice-aggregate-run-table-4 c = search needs
+
+run-table-requires : tie.Need-run-table-requires
+run-table-requires c κs = search needs
+
+same-length : tie.Need-same-length
+same-length c = search needs
+
+same-length-2 : tie.Need-same-length-2
+same-length-2 c = search needs
+
+returns : tie.Need-returns
+returns c = c .before .before .before .before .run-table .ensures (c .before .before .before .before .before .before .before .before .before .before .before .before .before .before .before .before .before .before .before .before .before .before .before .before .before .before .before .before .args .text .now) (c .before .before .before .before .before .before .before .before .before .before .before .before .before .before .before .before .before .read .last .1 .1 .1 .0) (record { judged = c .before .before .before .before .before .before .before .before .before .before .before .before .before .before .before .before .before .read .ensures .0; held = c .before .before .before .before .before .before .before .before .before .before .before .before .before .before .before .before .before .read .ensures .1 })
+
+pub run-short-spec : {M : Type 1} → statement M
+run-short-spec =
+    tie.close
+    (tie.spec
+    slice-aggregate-read
+    slice-aggregate-read-2
+    slice-aggregate-read-3
+    slice-aggregate-read-4
+    slice-aggregate-read-5
+    slice-aggregate-read-6
+    read-requires
+    slice-aggregate-run-table
+    slice-aggregate-run-table-2
+    slice-aggregate-run-table-3
+    slice-aggregate-run-table-4
+    run-table-requires
+    same-length
+    same-length-2
+    returns)
