@@ -9,7 +9,7 @@ use Rattle.meaning.specs.Terms.{Function, Program}
 use Rattle.meaning.specs.Code.{size, sizes, count, own, initial}
 use Rattle.accepted.specs.Accepted.{depth, depths, Shaped, AllShaped, Called}
 
-own-sizes : (n i : ℕ) → sizes (own n i) ≡ n
+pub own-sizes : (n i : ℕ) → sizes (own n i) ≡ n
 unfolding own size
 own-sizes zero i = refl
 own-sizes (suc n) i = omega (arith, own-sizes n (suc i))

@@ -58,7 +58,7 @@ line-lined (f ∷ g ∷ s ∷ fs) e =
 abbrev line-in : Field → Line
 line-in p = line-of (pieces tab p)
 
-judged : (l n : ℕ) (others : Passed) → judge-line l n others ≡ fine tt → (n ≡ 0) × (others ≡ fine tt)
+pub judged : (l n : ℕ) (others : Passed) → judge-line l n others ≡ fine tt → (n ≡ 0) × (others ≡ fine tt)
 unfolding judge-line
 judged l zero others e = (refl, e)
 judged l (suc n) others e = clash (cc)

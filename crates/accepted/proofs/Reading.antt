@@ -6,9 +6,9 @@ use mathlib.Core.Option.{Option, none, some}
 use mathlib.Core.List.{List, [], _∷_}
 use Prim.Native.Nat.{ℕ, zero, suc, _+_, _≤_, _<_, max}
 use native.Mathlib.Omega.{arith}
-use lib.ListN.{length, getElem?}
+use lib.ListN.{length, getD, getElem?}
 use Rattle.meaning.specs.Basics.{if_then_else_}
-use Rattle.meaning.specs.Arithmetic.{Sort, yes-no, domain}
+use Rattle.meaning.specs.Arithmetic.{Sort, number, yes-no, domain}
 use Rattle.meaning.specs.Text.{Line}
 use Rattle.meaning.specs.Terms.{Term, arg, call, Terms, nil, cons, Symbol, argument, operation, condition, function, unknown, Takes, takes, cannot, argument-takes, call-takes, takes-of, same-sort, if-sort, Read, got, fault, first-terms, other-terms, strict-of, condition-of, applied, with-arguments, and-more, then-more, read-row, read-taken, read-term}
 use Rattle.meaning.specs.Code.{size, sizes, count}
@@ -30,7 +30,13 @@ within (y ∷ xs) zero e = omega arith
 within (y ∷ xs) (suc i) e = omega (arith, within xs i e)
 
 -- The first k of a row and the others are the row.
-parted-sizes : (k : ℕ) (ts : Terms) → sizes (first-terms k ts) + sizes (other-terms k ts) ≡ sizes ts
+-- A sort that is there.
+pub element : (G : List Sort) (i : ℕ) → i < length G → getElem? G i ≡ some (getD G i number)
+element [] i h = absurd (omega (arith, h))
+element (s ∷ G) zero h = refl
+element (s ∷ G) (suc i) h = element G i (omega (arith, h))
+
+pub parted-sizes : (k : ℕ) (ts : Terms) → sizes (first-terms k ts) + sizes (other-terms k ts) ≡ sizes ts
 unfolding first-terms other-terms size
 parted-sizes zero ts = omega arith
 parted-sizes (suc k) nil = refl

@@ -6,22 +6,22 @@ use Prim.Native.Nat.{ℕ, zero, suc, _+_, _-_, _/_, _%_, _<_, _≤_}
 use native.Mathlib.Omega.{arith}
 use lib.ListN.{length, getD, take, drop, set, length-append, length-map}
 use lib.Seq.{take-at, drop-at, length-take-le, take-append-add}
-use Rattle.meaning.specs.Numbers.{no, most-depth}
+use Rattle.meaning.specs.Arithmetic.{modulus}
+use Rattle.meaning.specs.Numbers.{no, most-functions, most-depth}
 use Rattle.meaning.specs.Text.{Field, Line, Verdict, fine, refused, _>>=_, pieces, line-of, lines, is-name, value, sort-of, wrong-field}
 use Rattle.meaning.specs.Terms as means
 use Rattle.meaning.specs.Terms.{Term, Symbol, symbol, Read, got, fault, Program, read-term, nothing-after, read-body, function-of, read-bodies, wrong-number}
 use Rattle.meaning.specs.Code.{size, bodies-size}
 use Rattle.meaning.specs.Answers.{sort-number}
-use Rattle.table.specs.Table.{symbol-word, symbol-value, term-words, term-values, term-ends, bodies-words, bodies-values, bodies-ends, addresses-from}
+use Rattle.table.specs.Table.{first-function, symbol-word, symbol-value, term-words, term-values, term-ends, bodies-words, bodies-values, bodies-ends, addresses-from}
 use Rattle.fields.specs.Fields.{span, rest, packed}
-use Rattle.symbols.specs.Symbols.{shown, word-of, value-of, symbol-by}
-use Rattle.symbols.specs.declared.Symbol.{Symbol as Case}
-use Rattle.symbols.proofs.Laws.{word-shown, value-shown}
+use Rattle.symbols.specs.Symbols.{joined, symbol-by}
+use Rattle.symbols.proofs.Laws.{word-joined, value-joined}
 use Rattle.symbols.proofs.Names.{Names, is-a-name, visible-bytes, symbol-is, symbol-below, all-symbols-spelt}
 use Rattle.lines.specs.Splice.{splice}
 use Rattle.lines.specs.Lines.{body-fields, total, Right, raw-lines, part, Parted, name-number, line-signature}
 use Rattle.lines.proofs.Splice.{splice-none, splice-more, splice-set, splice-length}
-use Rattle.lines.proofs.Laws.{opened, Visible, Forms, right-forms, few-sorts, strict-few}
+use Rattle.lines.proofs.Laws.{body-length, opened, Visible, Forms, right-forms, few-sorts, strict-few}
 use Rattle.terms.specs.Terms.{wrong-code, Reached, Next, Fault, Few, World, Said, Whole, Within}
 use Rattle.terms.proofs.Flat.{term-symbols, words-are, values-are, symbol-count, end-count, Taken, taken-term}
 use Rattle.table.proofs.Signatures.{signature-count, signature-result, signature-sorts}
@@ -52,14 +52,16 @@ pub no-values : (M : List ℕ) (fs : List Field) → fs ≡ [] → values-by M f
 unfolding values-by
 no-values M fs e = rw e
 
-pub word-is : (M : List ℕ) (f : Field) (y : Case) (x : ℕ) → y ≡ shown (symbol-by M f) → x ≡ word-of y → x ≡ symbol-word (symbol-by M f)
-word-is M f y x p q = q ∙ ap word-of p ∙ word-shown (symbol-by M f)
+-- A field's symbol, as one number, holds its word and its value.
+module _ (M : List ℕ) (f : Field) (y x : ℕ) (e : y ≡ joined (symbol-by M f)) (h : length M ≤ most-functions) where
+  small : symbol-word (symbol-by M f) < modulus
+  small = omega (arith, symbol-below M f (first-function + most-functions) (omega arith))
 
-pub value-is : (M : List ℕ) (f : Field) (y : Case) (x : ℕ) → y ≡ shown (symbol-by M f) → x ≡ value-of y → x ≡ symbol-value (symbol-by M f)
-value-is M f y x p q = q ∙ ap value-of p ∙ value-shown (symbol-by M f)
+  pub word-is : x ≡ y % modulus → x ≡ symbol-word (symbol-by M f)
+  word-is q = q ∙ ap (λ (n : ℕ). n % modulus) e ∙ word-joined (symbol-by M f) small
 
-pub word-fits : (M : List ℕ) (f : Field) (y : Case) → y ≡ shown (symbol-by M f) → length M ≤ 64 → word-of y < 4294967296
-word-fits M f y p h = omega (arith, ap word-of p ∙ word-shown (symbol-by M f), symbol-below M f 96 (omega arith))
+  pub value-is : x ≡ y / modulus → x ≡ symbol-value (symbol-by M f)
+  value-is q = q ∙ ap (λ (n : ℕ). n / modulus) e ∙ value-joined (symbol-by M f) small
 
 -- Words and values by packed names are those of the definition's symbols.
 
@@ -236,13 +238,9 @@ first-line (k ∷ L) (suc l) h hs e =
     let n : suc l + 1 ≡ suc (l + 1) = omega arith in
     (omega (arith, r .0), r .1, ap (λ (m : ℕ). drop m (k ∷ L)) n ∙ r .2)
 
-line-body : (p : Field) → length (line-of (pieces 9 p) .body) ≡ body-fields p
-unfolding line-of body-fields
-line-body p = refl
-
 pub total-more : (p : Field) (hs ks : List Line) → hs ≡ line-of (pieces 9 p) ∷ ks → total hs ≡ body-fields p + total ks
 unfolding total
-total-more p hs ks e = ap total e ∙ ap (λ (n : ℕ). n + total ks) (line-body p)
+total-more p hs ks e = ap total e ∙ ap (λ (n : ℕ). n + total ks) (body-length p)
 
 pub none-left : (L hs : List Line) (l from k : ℕ) (b w v e : List ℕ) → hs ≡ [] → Finishes l from b b w w v v e e (read-bodies L k hs) (Done from)
 unfolding Finishes read-bodies bodies-size addresses-from bodies-words bodies-values bodies-ends

@@ -90,8 +90,8 @@ fn fault(wrong: usize, l: usize, from: usize, p: usize) -> Finished
 {
     Finished::Refused(
         number(wrong),
-        terms::narrow(l + 1),
-        terms::narrow(FIRST_SYMBOL + (p - from)),
+        lines::narrow(l + 1),
+        lines::narrow(FIRST_SYMBOL + (p - from)),
     )
 }
 
@@ -120,7 +120,7 @@ pub fn read_lines(
     if text.len() <= e {
         return Finished::Done(from);
     }
-    bodies[l] = terms::narrow(from);
+    bodies[l] = lines::narrow(from);
     let next = read_line(
         &text[at..e],
         names,

@@ -1,7 +1,5 @@
 // Runs texts through Check's core and prints number, line, field, functions and instructions of each. Standard input holds the texts, parted by byte 30.
 // Assumes what `io` and `libc` do.
-ghost use Prim.Native.Nat.{_≤_};
-ghost use lib.ListN.{length};
 
 // Parts one text from the next; no text of document 01 holds it.
 const PART: u8 = 30;

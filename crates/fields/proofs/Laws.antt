@@ -1,7 +1,7 @@
 -- Laws of fields: pieces by place, forms, decimals, packed names. Assumes nothing.
 use mathlib.Core.Path.{_≡_, refl, ap, sym, _∙_}
 use mathlib.Core.List.{List, [], _∷_}
-use mathlib.Core.Bool.{Bool, true, false, _&&_, _||_, and-assoc}
+use mathlib.Core.Bool.{Bool, true, false, _&&_, and-assoc}
 use Prim.Native.Nat.{ℕ, zero, suc, _+_, _-_, _*_, _^_, _<_, _≤_}
 use native.Mathlib.Omega.{arith}
 use native.Mathlib.Numerals.{add-one}
@@ -10,14 +10,12 @@ use lib.ListN.{length, getD, drop, take, drop-of-length-le, length-drop}
 use lib.Seq.{drop-cons, drop-drop, take-all, getD-drop, length-take-le}
 use lib.Dec.{ltb, leb, eqb}
 use borrow.Author.Tests.{lt-ltb, le-ltb, eq-eqb, ne-eqb, le-leb, lt-leb, leb-true, leb-false, eqb-true, eqb-false}
-use Rattle.meaning.specs.Basics.{if_then_else_, between, all, byte}
-use Rattle.meaning.specs.Text.{Field, pieces, onto-first, is-visible, is-name, is-count, are-sorts, is-result, is-sort, is-digit, is-capital, value, value-from, same}
+use Rattle.meaning.specs.Basics.{if_then_else_, between, all}
+use Rattle.meaning.specs.Text.{Field, pieces, onto-first, is-visible, is-name, is-count, are-sorts, is-result, is-sort, is-digit, is-capital, value-from, same}
 use Rattle.meaning.specs.Terms.{is-decimal}
 use Rattle.reader.proofs.Laws.{span-within}
 use Rattle.fields.specs.Fields.{span, rest, visible-span, occurrences, is-name-byte, count-of, decimal-of, digits-from, packed}
-use Rattle.fields.specs.declared.Strict.{Strict}
 use Rattle.fields.specs.declared.Strict.the-variants as strict
-use Rattle.fields.specs.declared.Decimal.{Decimal}
 use Rattle.fields.specs.declared.Decimal.the-variants.{Not, Value}
 
 -- Tests.

@@ -1,7 +1,7 @@
 -- Fields by place: where a piece of a text ends and what stands after it; a field's digit, decimal and number. Assumes nothing.
-use mathlib.Core.Bool.{Bool, true, false, _&&_, _||_}
+use mathlib.Core.Bool.{Bool, _||_}
 use mathlib.Core.List.{List, [], _∷_}
-use Prim.Native.Nat.{ℕ, zero, suc, _+_, _-_, _*_}
+use Prim.Native.Nat.{ℕ, suc, _+_, _-_, _*_}
 use lib.Dec.{leb, ltb, eqb}
 use Rattle.meaning.specs.Basics.{if_then_else_, between, byte}
 use Rattle.meaning.specs.Arithmetic.{modulus}

@@ -2,8 +2,9 @@
 // of the text. Every line and field that is cut out of a text ends where `piece_end` says, which goes through the reader of fields (`reader::field`).
 // Each function looks at a byte once. Assumes nothing.
 ghost use mathlib.Core.Path.{_≡_};
-ghost use Prim.Native.Nat.{ℕ, _+_, _≤_, _<_};
+ghost use Prim.Native.Nat.{_+_, _≤_, _<_};
 ghost use lib.ListN.{length, drop};
+ghost use Rattle.meaning.specs.Arithmetic.{modulus};
 ghost use Rattle.meaning.specs.Text.{is-visible, is-name, are-sorts, is-result, is-capital, is-digit, is-sort};
 ghost use Rattle.meaning.specs.Basics.{between};
 ghost use Rattle.fields.specs.Fields.{span, visible-span, occurrences, count-of, decimal-of, digits-from, packed, is-name-byte};
@@ -33,7 +34,7 @@ const FIRST_VISIBLE: u8 = 33;
 const LAST_VISIBLE: u8 = 126;
 
 // The decimals are below this.
-const MODULUS: u64 = 4294967296;
+pub const MODULUS: u64 = 4294967296;
 
 // Where the piece that begins at `from` ends: at the first byte b, or at the end. The reader of fields finds it.
 pub fn piece_end(s: &[u8], from: usize, b: u8) -> usize
@@ -227,7 +228,7 @@ fn long(b: u8) -> u64
 }
 
 fn narrow(x: u64) -> u32
-    requires { ⌜ x < 4294967296 ⌝ }
+    requires { ⌜ x < modulus ⌝ }
     ensures { λ r. ⌜ r ≡ x ⌝ }
 {
     x as u32

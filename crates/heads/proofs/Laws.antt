@@ -54,7 +54,7 @@ unfolding heads-list signatures addresses-from heads-from Small
 heads-are [] a s = refl
 heads-are (F ∷ P) a s = rw (head-is F a (s .0)) (ap (λ (l : List Head). record { args = length (F .sorts); strict = F .strict; result = sort-number (F .result); body = a } ∷ l) (heads-are P (a + size (F .body)) (s .1)))
 
-addresses-length : (P : Program) (a : ℕ) → length (addresses-from a P) ≡ length P
+pub addresses-length : (P : Program) (a : ℕ) → length (addresses-from a P) ≡ length P
 unfolding addresses-from
 addresses-length [] a = refl
 addresses-length (F ∷ P) a = ap suc (addresses-length P (a + size (F .body)))

@@ -1,6 +1,6 @@
 -- Heads from signatures and addresses. Assumes nothing.
 use mathlib.Core.List.{List, [], _∷_, _++_}
-use Prim.Native.Nat.{ℕ, zero, suc, _-_, _/_, _%_, _≤_}
+use Prim.Native.Nat.{ℕ, _-_, _/_, _%_, _≤_}
 use lib.ListN.{length, take, replicate}
 use Rattle.meaning.specs.Numbers.{most-arguments, most-functions}
 use Rattle.meaning.specs.Terms.{Program}

@@ -19,21 +19,12 @@ use Rattle.table.specs.Table.{signature, mask}
 use Rattle.fields.specs.Fields.{span, rest, visible-span, occurrences, count-of, packed, is-name-byte}
 use Rattle.fields.specs.declared.Strict.{Strict}
 use Rattle.fields.specs.declared.Strict.the-variants as strict
-use Rattle.fields.proofs.Laws.{first-piece, next-piece, no-piece, piece-count, sight-end, sight-tab, sight-other, sight-none, at-start}
+use Rattle.accepted.proofs.Lines.{judged}
+use Rattle.fields.proofs.Laws.{and-left, and-right, first-piece, next-piece, no-piece, piece-count, sight-end, sight-tab, sight-other, sight-none, at-start}
 use Rattle.lines.specs.Lines.{shown, judgement, sound, judged-from, judged-2, judged-line, body-fields, raw-lines, Right, part, Parted, total, line-signature, name-number, misfit, Scan, bit, is-held, judge-packed}
 use Rattle.lines.specs.declared.Scanned.{Scanned}
 use Rattle.lines.specs.declared.Judgement.the-variants.{Passes, Refused}
 use Rattle.lines.proofs.Splice.{sets, sets-on, sets-splice}
-
--- Tests.
-
-and-left : (a b : Bool) → a && b ≡ true → a ≡ true
-and-left true b e = refl
-and-left false b e = e
-
-and-right : (a b : Bool) → a && b ≡ true → b ≡ true
-and-right true b e = e
-and-right false b e = let z : _≡_ {A = ℕ} 0 1 = cc in absurd (omega arith)
 
 -- Field by field.
 
@@ -281,17 +272,12 @@ pub end-lines : (t : List ℕ) (at : ℕ) → length t ≤ at → lines (drop at
 end-lines t at h = lines-raw (drop at t) ∙ ap (map (λ p. line-of (pieces 9 p))) (no-lines t at h)
 
 -- A text whose shape passes has only lines of the right shape.
-right-by : (l w : ℕ) (others : Passed) → judge-line l w others ≡ fine tt → (w ≡ 0) × (others ≡ fine tt)
-unfolding judge-line
-right-by l zero others e = (refl, e)
-right-by l (suc k) others e = let z : _≡_ {A = ℕ} 0 1 = cc in absurd (omega arith)
-
 right-lines : (l : ℕ) (ps : List Field) → judge-lines l ps ≡ fine tt → Right (all-but-last ps)
 unfolding judge-lines all-but-last Right
 right-lines l [] e = tt
 right-lines l (p ∷ []) e = tt
 right-lines l (p ∷ q ∷ ps) e =
-    let k = right-by l (wrong-field (pieces 9 p)) (judge-lines (l + 1) (q ∷ ps)) e in
+    let k = judged l (wrong-field (pieces 9 p)) (judge-lines (l + 1) (q ∷ ps)) e in
     (k .0, right-lines (l + 1) (q ∷ ps) (k .1))
 
 pub right-shape : (t : List ℕ) → judge-shape t ≡ fine tt → Right (raw-lines t)
@@ -330,7 +316,7 @@ pub symbols-done : (t : List ℕ) (at l seen : ℕ) → lines (drop at t) ≡ []
 unfolding judge-symbols shown
 symbols-done t at l seen e = rw e
 
-body-length : (p : Field) → length (line-of (pieces 9 p) .body) ≡ body-fields p
+pub body-length : (p : Field) → length (line-of (pieces 9 p) .body) ≡ body-fields p
 unfolding line-of body-fields
 body-length p = refl
 
@@ -625,34 +611,73 @@ abbrev lengths : List Field → ℕ
 lengths [] = 0
 lengths (p ∷ ps) = length p + lengths ps
 
-lengths-first : (x : ℕ) (ps : List Field) → lengths (onto-first x ps) ≡ suc (lengths ps)
+lengths-by : (x : ℕ) (ps : List Field) (n : ℕ) (t : Bool) → lengths ps + length ps ≤ suc n → lengths (if t then [] ∷ ps else onto-first x ps) + length (if t then [] ∷ ps else onto-first x ps) ≤ suc (suc n)
 unfolding onto-first
-lengths-first x [] = omega arith
-lengths-first x (p ∷ ps) = omega arith
+lengths-by x ps n true h = omega (arith, h)
+lengths-by x [] n false h = omega arith
+lengths-by x (p ∷ ps) n false h = omega (arith, h)
 
-lengths-by : (x : ℕ) (ps : List Field) (n : ℕ) (t : Bool) → lengths ps ≤ n → lengths (if t then [] ∷ ps else onto-first x ps) ≤ suc n
-lengths-by x ps n true h = omega arith
-lengths-by x ps n false h = omega (arith, lengths-first x ps)
-
-lengths-within : (b : ℕ) (s : List ℕ) → lengths (pieces b s) ≤ length s
+-- A byte between each piece and the next.
+lengths-within : (b : ℕ) (s : List ℕ) → lengths (pieces b s) + length (pieces b s) ≤ suc (length s)
 unfolding pieces
 lengths-within b [] = omega arith
 lengths-within b (x ∷ s) = lengths-by x (pieces b s) (length s) (eqb x b) (lengths-within b s)
 
-lengths-less : (ps : List Field) → lengths (all-but-last ps) ≤ lengths ps
+lengths-less : (ps : List Field) → lengths (all-but-last ps) + length (all-but-last ps) ≤ lengths ps + length ps - 1
 unfolding all-but-last
 lengths-less [] = omega arith
 lengths-less (p ∷ []) = omega arith
 lengths-less (p ∷ q ∷ ps) = omega (arith, lengths-less (q ∷ ps))
+
+raw-within : (t : List ℕ) → lengths (raw-lines t) + length (raw-lines t) ≤ length t
+unfolding raw-lines
+raw-within t = omega (arith, lengths-less (pieces 10 t), lengths-within 10 t)
 
 total-lengths : (ps : List Field) → total (map (λ p. line-of (pieces 9 p)) ps) ≤ lengths ps
 unfolding total
 total-lengths [] = omega arith
 total-lengths (p ∷ ps) = omega (arith, total-lengths ps, body-length p, body-less p)
 
-pub total-within : (t : List ℕ) → total (lines t) ≤ length t
-unfolding raw-lines
-total-within t = omega (arith, ap total (lines-raw t), total-lengths (raw-lines t), lengths-less (pieces 10 t), lengths-within 10 t)
+total-within : (t : List ℕ) → total (lines t) ≤ length t
+total-within t = omega (arith, ap total (lines-raw t), total-lengths (raw-lines t), raw-within t)
+
+-- Of lines of the right shape each field has a byte and one after it, and four stand before the body: eight bytes a line and two a symbol.
+visible-some : (fs : List Field) → Visible fs → length fs ≤ lengths fs
+unfolding Visible is-visible
+visible-some [] v = omega arith
+visible-some (f ∷ fs) v = omega (arith, visible-some fs (v .1), leb-true 1 (length f) (and-left (leb 1 (length f)) _ (v .0)))
+
+name-some : (f : Field) → is-name f ≡ true → 1 ≤ length f
+unfolding is-name
+name-some [] e = let z : _≡_ {A = ℕ} 0 1 = cc in absurd (omega arith)
+name-some (x ∷ f) e = omega arith
+
+sorts-some : (s : ℕ) (f : Field) → are-sorts s f ≡ true → 1 ≤ length f
+unfolding are-sorts
+sorts-some s f e = leb-true 1 (length f) (and-left (leb 1 (length f)) _ (and-left (leb 1 (length f) && leb (length f) 8) _ e))
+
+fields-some : (fs : List Field) → Forms fs → length fs ≤ lengths fs
+fields-some [] k = omega arith
+fields-some (a ∷ []) k = absurd (omega (arith, k .enough))
+fields-some (a ∷ b ∷ []) k = absurd (omega (arith, k .enough))
+fields-some (a ∷ b ∷ c ∷ []) k = absurd (omega (arith, k .enough))
+fields-some (a ∷ b ∷ c ∷ d ∷ fs) k =
+    omega (arith, name-some a (k .name-form), one-of b (k .strict-form) .0, sorts-some (value b) c (k .sorts-form), one-result d (k .result-form), visible-some fs (k .body-form))
+
+line-bytes : (p : Field) → wrong-field (pieces 9 p) ≡ 0 → 7 + 2 * body-fields p ≤ length p
+unfolding body-fields
+line-bytes p w =
+    let k = right-forms (pieces 9 p) w in
+    omega (arith, fields-some (pieces 9 p) k, lengths-within 9 p, length-drop 4 (pieces 9 p), k .enough)
+
+right-bytes : (ps : List Field) → Right ps → 8 * length ps + 2 * total (map (λ p. line-of (pieces 9 p)) ps) ≤ lengths ps + length ps
+unfolding Right total
+right-bytes [] r = omega arith
+right-bytes (p ∷ ps) r = omega (arith, right-bytes ps (r .1), body-length p, line-bytes p (r .0))
+
+pub shaped-within : (t : List ℕ) → Right (raw-lines t) → 8 * length (lines t) + 2 * total (lines t) ≤ length t
+shaped-within t r =
+    omega (arith, ap total (lines-raw t), ap length (lines-raw t), length-map (raw-lines t) (λ p. line-of (pieces 9 p)), right-bytes (raw-lines t) r, raw-within t)
 
 -- The scan, line by line: what was written before line n, counted from 0, and what is still to come.
 

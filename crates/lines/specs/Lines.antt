@@ -79,6 +79,10 @@ line-signature h = signature (h .sorts) (h .strict) (h .result)
 unfoldable pub name-number : Line → ℕ
 name-number h = packed (h .name)
 
+-- The bit of a sort's letter.
+abbrev pub bit : ℕ → ℕ
+bit x = if eqb x (byte "b") then 1 else 0
+
 -- What the scan answers where field k of line l is wrong.
 unfoldable pub misfit : ℕ → ℕ → Scanned
 misfit l k = record { number = no LINE; line = l; field = k; functions = 0; symbols = 0 }
@@ -90,9 +94,6 @@ pub record Scan (text names names′ heads heads′ : List ℕ) (r : Scanned) : 
   pub symbols-counted : r .number ≡ 0 → r .symbols ≡ total (lines text)
   pub names-filled : r .number ≡ 0 → length (lines text) ≤ length names → names′ ≡ splice names 0 (map name-number (lines text))
   pub heads-filled : r .number ≡ 0 → length (lines text) ≤ length heads → heads′ ≡ splice heads 0 (map line-signature (lines text))
-
-abbrev pub bit : ℕ → ℕ
-bit x = if eqb x (byte "b") then 1 else 0
 
 -- NAME by packed names.
 unfoldable pub is-held : ℕ → List ℕ → Bool

@@ -5,6 +5,7 @@ ghost use mathlib.Core.Path.{_≡_};
 ghost use mathlib.Core.List.{[], _∷_, map};
 ghost use Prim.Native.Nat.{_+_, _-_, _≤_, _<_};
 ghost use lib.ListN.{length, drop, set};
+ghost use Rattle.meaning.specs.Arithmetic.{modulus};
 ghost use Rattle.meaning.specs.Numbers.{most-bytes, most-functions};
 ghost use Rattle.meaning.specs.Text.{tab, is-visible, is-result, are-sorts, wrong-field, pieces, judge-symbols, judge-counts, lines, line-of, sort-of};
 ghost use Rattle.table.specs.Table.{signature, mask};
@@ -46,8 +47,9 @@ const SOUND: u32 = 65536;
 // That of a line of the four fields that stand before a body.
 const SOUND_BODY: u32 = SOUND + 5;
 
-fn narrow(x: usize) -> u32
-    requires { ⌜ x < 4294967296 ⌝ }
+// A place or a count as a word.
+pub fn narrow(x: usize) -> u32
+    requires { ⌜ x < modulus ⌝ }
     ensures { λ r. ⌜ r ≡ x ⌝ }
 {
     x as u32

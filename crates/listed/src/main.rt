@@ -1,8 +1,6 @@
 // Lists the code words of texts, one instruction a line, after Translate's answer (number, line, field, functions, instructions).
 // Standard input holds the texts, parted by byte 30: document 01's ID, and document 000's Example 73. Assumes what `io` and `libc` do.
 use meaning::MOST_CODE_WORDS;
-ghost use Prim.Native.Nat.{_≤_};
-ghost use lib.ListN.{length};
 
 // Parts one text from the next; no text that is accepted holds it.
 const PART: u8 = 30;

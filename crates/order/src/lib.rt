@@ -2,8 +2,7 @@
 use fields::Decimal;
 ghost use mathlib.Core.Path.{_≡_};
 ghost use mathlib.Core.List.{[]};
-ghost use Prim.Native.Nat.{_≤_};
-ghost use lib.ListN.{length, drop};
+ghost use lib.ListN.{drop};
 ghost use Rattle.meaning.specs.Text.{pieces, tab};
 ghost use Rattle.meaning.specs.Program.{order-of};
 ghost use Rattle.fields.specs.Fields.{rest};

@@ -2,10 +2,10 @@
 use meaning::Answer;
 ghost use mathlib.Core.Path.{_≡_};
 ghost use mathlib.Core.List.{_++_, _∷_, []};
-ghost use Prim.Native.Nat.{_+_, _-_, _≤_, _<_};
+ghost use Prim.Native.Nat.{_+_, _≤_, _<_};
 ghost use lib.ListN.{length, getD, drop};
 ghost use Rattle.meaning.specs.Program.{decimal, ten-places, printed-field, printed};
-ghost use Rattle.printing.specs.Digits.{digit, digits, shown};
+ghost use Rattle.printing.specs.Digits.{digits, shown};
 
 const TAB: u8 = 9;
 

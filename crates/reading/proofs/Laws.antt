@@ -2,7 +2,7 @@
 use mathlib.Core.Path.{_≡_, refl, ap, sym, _∙_, subst}
 use mathlib.Core.Bool.{Bool, true, false}
 use mathlib.Core.List.{List, [], _∷_, _++_, map, map-append, append-assoc, append-nil}
-use Prim.Native.Nat.{ℕ, zero, suc, _+_, _-_, _%_, _<_, _≤_}
+use Prim.Native.Nat.{ℕ, zero, suc, _+_, _-_, _*_, _%_, _<_, _≤_}
 use native.Mathlib.Omega.{arith}
 use native.Mathlib.Numerals.{add-one}
 use lib.Dec.{leb}
@@ -26,7 +26,7 @@ use Rattle.lines.specs.declared.Scanned.{Scanned}
 use Rattle.lines.specs.declared.Judgement.{Judgement}
 use Rattle.lines.specs.declared.Judgement.the-variants.{Passes, Refused}
 use Rattle.lines.proofs.Splice.{splice-more, splice-set, take-splice}
-use Rattle.lines.proofs.Laws.{shape-some, shape-none, shape-open, more-lines, lines-raw, total-within}
+use Rattle.lines.proofs.Laws.{shape-some, shape-none, shape-open, more-lines, lines-raw, right-shape, shaped-within}
 use Rattle.table.proofs.Signatures.{signature-count}
 use Rattle.bodies.specs.Bodies.{Formed, Finishes}
 use Rattle.bodies.specs.declared.Finished.{Finished}
@@ -138,9 +138,9 @@ few-by : (L : List Line) (t : Bool) → leb (length L) 64 ≡ t → (if t then j
 few-by L true p e = (leb-true (length L) 64 p, omega (arith, counted 1 0 L (omega arith) e))
 few-by L false p e = let z : _≡_ {A = ℕ} 0 1 = cc in absurd (omega arith)
 
-pub few-lines : (L : List Line) → judge-counts L ≡ fine tt → (length L ≤ 64) × (total L ≤ 1024)
+pub few-lines : (t : List ℕ) → judge-shape t ≡ fine tt → judge-counts (lines t) ≡ fine tt → Counted t
 unfolding judge-counts
-few-lines L e = few-by L (leb (length L) 64) refl e
+few-lines t s e = let k = few-by (lines t) (leb (length (lines t)) 64) refl e in (s, k .0, k .1)
 
 -- NAME by packed names is NAME.
 
@@ -220,21 +220,18 @@ module _ (L : List Line) (N H : List ℕ) (k : Noted L N H) (n : ℕ) (e : n ≡
   pub heads-part : length L ≤ length H → take (n - 0) (drop 0 H) ≡ map line-signature L
   heads-part m = first-of H (map line-signature L) (k .heads-noted m)
 
--- Arrays that fit. Those of 64 and 1,034 elements fit every text; a text has no more symbols than bytes.
-module _ (t N H b w v e : List ℕ) (names : 64 ≤ length N) (heads : 64 ≤ length H) (bodies : 64 ≤ length b) where
-  fits-by : (Counted (lines t) → (total (lines t) + initial-room ≤ length w) × (total (lines t) + initial-room ≤ length v) × (total (lines t) + initial-room ≤ length e)) → Fit t N H b w v e
-  fits-by f =
+-- Arrays that fit a text of at most 2 n bytes: where its shape passes, a line takes eight bytes and a symbol two more.
+module _ (t N H b w v e : List ℕ) where
+  bytes : Counted t → 8 * length (lines t) + 2 * total (lines t) ≤ length t
+  bytes k = shaped-within t (right-shape t (k .0))
+
+  pub fits-half : (n : ℕ) → length t ≤ 2 * n → n ≤ 4 * length N → n ≤ 4 * length H → n ≤ 4 * length b → n + initial-room ≤ length w → n + initial-room ≤ length v → n + initial-room ≤ length e → Fit t N H b w v e
+  fits-half n m p q r x y z =
       record {
-        names-fit = λ k. omega (arith, k .0, names);
-        heads-fit = λ k. omega (arith, k .0, heads);
-        room = λ k. record { bodies-fit = omega (arith, k .0, bodies); words-fit = f k .0; values-fit = f k .1; ends-fit = f k .2 };
+        names-fit = λ k. omega (arith, bytes k, m, p);
+        heads-fit = λ k. omega (arith, bytes k, m, q);
+        room = λ k. record { bodies-fit = omega (arith, bytes k, m, r); words-fit = omega (arith, bytes k, m, x); values-fit = omega (arith, bytes k, m, y); ends-fit = omega (arith, bytes k, m, z) };
       }
-
-  pub fits-any : 1034 ≤ length w → 1034 ≤ length v → 1034 ≤ length e → Fit t N H b w v e
-  fits-any x y z = fits-by (λ k. (omega (arith, k .1, x), omega (arith, k .1, y), omega (arith, k .1, z)))
-
-  pub fits-short : (n : ℕ) → length t ≤ n → n + 10 ≤ length w → n + 10 ≤ length v → n + 10 ≤ length e → Fit t N H b w v e
-  fits-short n m x y z = fits-by (λ k. (omega (arith, total-within t, m, x), omega (arith, total-within t, m, y), omega (arith, total-within t, m, z)))
 
 -- The table of an accepted text.
 

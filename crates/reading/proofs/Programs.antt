@@ -8,6 +8,7 @@ use Rattle.meaning.specs.Text.{Line, Verdict, fine, refused, _>>=_}
 use Rattle.meaning.specs.Terms.{Term, arg, op, cond, call, Terms, nil, cons, Symbol, symbol, Read, got, fault, Function, Program, nothing-after, read-body, function-of, read-bodies}
 use Rattle.meaning.specs.Code.{size, sizes, own, initial, bodies-size, row-entrance, code, strict-code, waiting-code, bodies-code, body-entrances, translation, ret-address, RET}
 use Rattle.table.specs.Table.{term-words, row-words, term-values, row-values, term-ends, row-ends, signatures}
+use Rattle.accepted.proofs.Initial.{own-sizes}
 use Rattle.lines.specs.Lines.{total, line-signature}
 use Rattle.meaning.specs.Numbers.{most-depth}
 use Rattle.terms.proofs.Flat.{term-symbols, symbol-count, Taken, taken-term}
@@ -62,11 +63,6 @@ own-values : (n i : ℕ) → row-values (own n i) ≡ zeros n
 unfolding own term-values zeros
 own-values zero i = refl
 own-values (suc n) i = ap (λ (l : List ℕ). 0 ∷ l) (own-values n (suc i))
-
-own-sizes : (n i : ℕ) → sizes (own n i) ≡ n
-unfolding own size
-own-sizes zero i = refl
-own-sizes (suc n) i = omega (arith, own-sizes n (suc i))
 
 own-ends : (n i a : ℕ) → row-ends (own n i) a ≡ upto n (suc a)
 unfolding own term-ends upto size

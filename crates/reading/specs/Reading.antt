@@ -4,7 +4,7 @@ use mathlib.Core.List.{List, [], _∷_, map}
 use Prim.Native.Nat.{ℕ, zero, suc, _+_, _≤_}
 use lib.ListN.{length, take}
 use Rattle.meaning.specs.Numbers.{no, HALT, most-functions, most-symbols, most-arguments}
-use Rattle.meaning.specs.Text.{Line, Verdict, fine, _>>_, judge-counts, judge-names, lines}
+use Rattle.meaning.specs.Text.{Line, Verdict, fine, _>>_, judge-shape, judge-counts, judge-names, lines}
 use Rattle.meaning.specs.Terms.{Program, read-bodies}
 use Rattle.meaning.specs.Answers.{checked}
 use Rattle.meaning.specs.declared.Checked.{Checked}
@@ -36,9 +36,9 @@ unfoldable pub zeros : ℕ → List ℕ
 zeros zero = []
 zeros (suc n) = 0 ∷ zeros n
 
--- The counts of these lines pass.
-abbrev pub Counted : List Line → Type 0
-Counted L = (length L ≤ most-functions) × (total L ≤ most-symbols)
+-- The shape and the counts of a text pass.
+abbrev pub Counted : List ℕ → Type 0
+Counted text = (judge-shape text ≡ fine tt) × (length (lines text) ≤ most-functions) × (total (lines text) ≤ most-symbols)
 
 -- Room beside the bodies' symbols: for the initial term, which has one symbol more than arguments, and a word to spare, for RET.
 abbrev pub initial-room : ℕ
@@ -51,11 +51,11 @@ pub record Room (L : List Line) (bodies words values ends : List ℕ) : Type 0 w
   pub values-fit : total L + initial-room ≤ length values
   pub ends-fit : total L + initial-room ≤ length ends
 
--- The lent arrays are long enough for a text, if its counts pass.
+-- The lent arrays are long enough for a text, if its shape and counts pass.
 pub record Fit (text names heads bodies words values ends : List ℕ) : Type 0 where
-  pub names-fit : Counted (lines text) → length (lines text) ≤ length names
-  pub heads-fit : Counted (lines text) → length (lines text) ≤ length heads
-  pub room : Counted (lines text) → Room (lines text) bodies words values ends
+  pub names-fit : Counted text → length (lines text) ≤ length names
+  pub heads-fit : Counted text → length (lines text) ≤ length heads
+  pub room : Counted text → Room (lines text) bodies words values ends
 
 -- Arrays that begin with the names and signatures of these lines, if they are long enough.
 pub record Noted (L : List Line) (names heads : List ℕ) : Type 0 where

@@ -12,7 +12,8 @@ ghost use Rattle.meaning.specs.Text.{fine, judge-shape, lines};
 ghost use Rattle.meaning.specs.Terms.{Program};
 ghost use Rattle.meaning.specs.Check.{check};
 ghost use Rattle.meaning.specs.Answers.{checked};
-ghost use Rattle.table.specs.Table.{Holds};
+ghost use Rattle.table.specs.Table.{result-unit, first-function, Holds};
+ghost use Rattle.terms.specs.Terms.{faults};
 ghost use Rattle.lines.specs.Splice.{splice};
 ghost use Rattle.lines.specs.Lines.{Right, raw-lines, total, name-number, line-signature};
 ghost use Rattle.reading.specs.Reading.{refusal, acceptance, upto, zeros, after-shape, after-counts, after-names, Outcome, Room, Fit, Noted};
@@ -22,13 +23,6 @@ pub const INITIAL_ROOM: usize = meaning::MOST_ARGUMENTS + 2;
 
 // Arrays of symbols of this length fit every text.
 pub const TABLE_SYMBOLS: usize = meaning::MOST_SYMBOLS + INITIAL_ROOM;
-
-fn narrow(x: usize) -> u32
-    requires { ⌜ x < 4294967296 ⌝ }
-    ensures { λ r. ⌜ r ≡ x ⌝ }
-{
-    x as u32
-}
 
 fn refused(number: u32, line: u32, field: u32) -> Checked
     ensures { λ r. ⌜ r ≡ refusal number line field ⌝ }
@@ -44,15 +38,15 @@ fn refused(number: u32, line: u32, field: u32) -> Checked
 
 // The last instruction is RET.
 fn accepted(functions: usize, end: usize) -> Checked
-    requires { ⌜ (functions ≤ most-functions) × (end ≤ 2048) ⌝ }
+    requires { ⌜ (functions ≤ most-functions) × (end < faults) ⌝ }
     ensures { λ r. ⌜ r ≡ acceptance functions (end + 1) ⌝ }
 {
     Checked {
         number: meaning::HALT,
         line: 0,
         field: 0,
-        functions: narrow(functions),
-        instructions: narrow(end + 1),
+        functions: lines::narrow(functions),
+        instructions: lines::narrow(end + 1),
     }
 }
 
@@ -65,25 +59,25 @@ fn fill_own(n: usize, words: &mut [u32], values: &mut [u32], ends: &mut [u32])
 {
     let mut i: usize = 1;
     while i <= n {
-        words[i] = narrow(i);
+        words[i] = lines::narrow(i);
         values[i] = 0;
-        ends[i] = narrow(i + 1);
+        ends[i] = lines::narrow(i + 1);
         i += 1;
     }
 }
 
 // "The initial term is the entry applied to its own arguments": the address after it.
 fn initial(own: u32, words: &mut [u32], values: &mut [u32], ends: &mut [u32]) -> usize
-    requires { ⌜ (own % 16 < length (now words)) × (own % 16 < length (now values)) × (own % 16 < length (now ends)) ⌝ }
-    ensures place { λ r. ⌜ r ≡ own % 16 + 1 ⌝ }
-    ensures words { λ _. ⌜ now (words .exit) ≡ splice (now (words .entry)) 0 (32 ∷ upto (own % 16) 1) ⌝ }
-    ensures values { λ _. ⌜ now (values .exit) ≡ splice (now (values .entry)) 0 (0 ∷ zeros (own % 16)) ⌝ }
-    ensures ends { λ _. ⌜ now (ends .exit) ≡ splice (now (ends .entry)) 0 ((own % 16 + 1) ∷ upto (own % 16) 2) ⌝ }
+    requires { ⌜ (own % result-unit < length (now words)) × (own % result-unit < length (now values)) × (own % result-unit < length (now ends)) ⌝ }
+    ensures place { λ r. ⌜ r ≡ own % result-unit + 1 ⌝ }
+    ensures words { λ _. ⌜ now (words .exit) ≡ splice (now (words .entry)) 0 (first-function ∷ upto (own % result-unit) 1) ⌝ }
+    ensures values { λ _. ⌜ now (values .exit) ≡ splice (now (values .entry)) 0 (0 ∷ zeros (own % result-unit)) ⌝ }
+    ensures ends { λ _. ⌜ now (ends .exit) ≡ splice (now (ends .entry)) 0 ((own % result-unit + 1) ∷ upto (own % result-unit) 2) ⌝ }
 {
     let n = (own % table::RESULT_UNIT) as usize;
     words[0] = table::FIRST_FUNCTION;
     values[0] = 0;
-    ends[0] = narrow(n + 1);
+    ends[0] = lines::narrow(n + 1);
     fill_own(n, words, values, ends);
     n + 1
 }

@@ -1,31 +1,29 @@
--- A test that antt computes over a whole table holds at each of its entries. Assumes nothing.
-use mathlib.Core.Path.{_≡_, _∙_, subst, sym}
+-- A test that antt computes at each of the first n numbers holds at each of them. Assumes nothing.
+use mathlib.Core.Path.{_∙_, subst, sym}
 use mathlib.Core.Bool.{Bool, true, false, _&&_}
-use mathlib.Core.List.{List, [], _∷_}
 use Prim.Native.Nat.{ℕ, zero, suc, _+_, _<_}
 use native.Mathlib.Nat.{add-zero, zero-add, add-suc, suc-add, le-of-suc-le-suc, not-suc-le-zero}
 use lib.Dec.{T}
-use lib.ListN.{length, getD}
 
-pub first-of : (a b : Bool) → T (a && b) → T a
+first-of : (a b : Bool) → T (a && b) → T a
 first-of true b t = tt
 first-of false b t = t
 
-pub second-of : (a b : Bool) → T (a && b) → T b
+second-of : (a b : Bool) → T (a && b) → T b
 second-of true b t = t
 second-of false b t = absurd t
 
--- The test passes at each entry and its place, counted from i.
-abbrev pub every : (ℕ → ℕ → Bool) → ℕ → List ℕ → Bool
-every test i [] = true
-every test i (x ∷ xs) = test i x && every test (suc i) xs
+-- The test passes at n numbers from i on.
+abbrev pub every : (ℕ → Bool) → ℕ → ℕ → Bool
+every test i zero = true
+every test i (suc n) = test i && every test (suc i) n
 
-from : (test : ℕ → ℕ → Bool) (xs : List ℕ) (i : ℕ) → T (every test i xs) → (k : ℕ) → k < length xs → T (test (i + k) (getD xs k 0))
-from test [] i t k h = absurd (not-suc-le-zero h)
-from test (x ∷ xs) i t zero h = subst (λ (m : ℕ). T (test m x)) (sym (add-zero i)) (first-of (test i x) (every test (suc i) xs) t)
-from test (x ∷ xs) i t (suc k) h =
-    subst (λ (m : ℕ). T (test m (getD xs k 0))) (suc-add i k ∙ sym (add-suc i k))
-    (from test xs (suc i) (second-of (test i x) (every test (suc i) xs) t) k (le-of-suc-le-suc h))
+from : (test : ℕ → Bool) (n i : ℕ) → T (every test i n) → (k : ℕ) → k < n → T (test (i + k))
+from test zero i t k h = absurd (not-suc-le-zero h)
+from test (suc n) i t zero h = subst (λ (m : ℕ). T (test m)) (sym (add-zero i)) (first-of (test i) (every test (suc i) n) t)
+from test (suc n) i t (suc k) h =
+    subst (λ (m : ℕ). T (test m)) (suc-add i k ∙ sym (add-suc i k))
+    (from test n (suc i) (second-of (test i) (every test (suc i) n) t) k (le-of-suc-le-suc h))
 
-pub at : (test : ℕ → ℕ → Bool) (xs : List ℕ) → T (every test 0 xs) → (k : ℕ) → k < length xs → T (test k (getD xs k 0))
-at test xs t k h = subst (λ (m : ℕ). T (test m (getD xs k 0))) (zero-add k) (from test xs 0 t k h)
+pub at : (test : ℕ → Bool) (n : ℕ) → T (every test 0 n) → (k : ℕ) → k < n → T (test k)
+at test n t k h = subst (λ (m : ℕ). T (test m)) (zero-add k) (from test n 0 t k h)

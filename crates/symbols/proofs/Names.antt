@@ -2,21 +2,19 @@
 use mathlib.Core.Path.{_≡_, refl, ap, sym, _∙_}
 use mathlib.Core.List.{List, [], _∷_, map}
 use mathlib.Core.Bool.{Bool, true, false, _&&_, _||_}
-use Prim.Native.Nat.{ℕ, suc, _+_, _<_, _≤_}
+use Prim.Native.Nat.{ℕ, suc, _+_, _*_, _<_, _≤_}
 use native.Mathlib.Omega.{arith}
 use lib.Dec.{ltb, leb, eqb}
 use lib.ListN.{length, getD}
 use borrow.Author.Tests.{ne-eqb, ltb-true, leb-true}
 use Rattle.meaning.specs.Basics.{if_then_else_, all, between, bytes}
-use Rattle.meaning.specs.Arithmetic.{number, yes-no, constant}
+use Rattle.meaning.specs.Arithmetic.{modulus, number, yes-no, constant, op-constant}
 use Rattle.meaning.specs.Text.{Field, same, value, is-name, is-visible, is-capital, is-digit}
-use Rattle.meaning.specs.Terms.{Symbol as Means, operation, condition, function, unknown, Word, vocabulary, spelt-in, named, is-decimal, symbol}
-use Rattle.table.specs.Table.{symbol-word, op-word}
+use Rattle.meaning.specs.Terms.{Symbol, operation, condition, function, unknown, Word, vocabulary, spelt-in, named, is-decimal, symbol}
+use Rattle.table.specs.Table.{number-word, symbol-word, symbol-value, op-word}
 use Rattle.fields.specs.Fields.{packed, is-name-byte}
 use Rattle.fields.proofs.Laws.{and-false, and-left, and-right, Bytes, packed-same}
-use Rattle.symbols.specs.Symbols.{Named, Spelt, All-spelt, named-as, short-word, one-byte-symbol, decimal-or, some-bytes-symbol, symbol-by}
-
--- Tests.
+use Rattle.symbols.specs.Symbols.{Named, Spelt, All-spelt, named-as, joined, short-symbol, one-byte-symbol, decimal-or, some-bytes-symbol, symbol-by}
 
 -- Names and visible fields are made of bytes from 1 to 255.
 
@@ -87,33 +85,33 @@ named-long i (n ∷ N) f p h = rw (other-lengths f n (λ e. omega (arith, p .0 .
 
 Spoken : List Word → Type 0
 Spoken [] = Unit {0}
-Spoken (w ∷ ws) = (eqb (symbol-word (w .means)) 0 ≡ false) × Spoken ws
+Spoken (w ∷ ws) = (eqb (joined (w .means)) 0 ≡ false) × Spoken ws
 
 spoken : Spoken vocabulary
-unfolding Spoken symbol-word op-word
+unfolding Spoken joined symbol-word op-word symbol-value op-constant
 spoken = (refl, (refl, (refl, (refl, (refl, (refl, (refl, (refl, (refl, (refl, (refl, (refl, (refl, (refl, (refl, (refl, (refl, (refl, (refl, (refl, (refl, tt)))))))))))))))))))))
 
-spelt-by : (t : Bool) (m y z Z : Means) → eqb (symbol-word m) 0 ≡ false → Z ≡ (if eqb (symbol-word z) 0 then y else z) →
-    (if t then m else Z) ≡ (if eqb (symbol-word (if t then m else z)) 0 then y else (if t then m else z))
+spelt-by : (t : Bool) (m y z Z : Symbol) → eqb (joined m) 0 ≡ false → Z ≡ (if eqb (joined z) 0 then y else z) →
+    (if t then m else Z) ≡ (if eqb (joined (if t then m else z)) 0 then y else (if t then m else z))
 spelt-by true m y z Z e x = rw e
 spelt-by false m y z Z e x = x
 
-spelt-or : (ws : List Word) (f : Field) (d : Bool) (v : ℕ) (y : Means) → Spoken ws →
+spelt-or : (ws : List Word) (f : Field) (d : Bool) (v : ℕ) (y : Symbol) → Spoken ws →
     spelt-in ws f (if d then operation (constant number v) else y)
-    ≡ (if eqb (symbol-word (spelt-in ws f (if d then operation (constant number v) else unknown))) 0 then y else spelt-in ws f (if d then operation (constant number v) else unknown))
-unfolding spelt-in symbol-word op-word Spoken
-spelt-or [] f true v y p = refl
+    ≡ (if eqb (joined (spelt-in ws f (if d then operation (constant number v) else unknown))) 0 then y else spelt-in ws f (if d then operation (constant number v) else unknown))
+unfolding spelt-in joined symbol-word op-word symbol-value op-constant Spoken
+spelt-or [] f true v y p = rw (ne-eqb (number-word + modulus * v) 0 λ e. omega (arith, e))
 spelt-or [] f false v y p = refl
 spelt-or (w ∷ ws) f d v y p =
     spelt-by (same f (w .spelt)) (w .means) y (spelt-in ws f (if d then operation (constant number v) else unknown))
     (spelt-in ws f (if d then operation (constant number v) else y)) (p .0) (spelt-or ws f d v y (p .1))
 
-symbol-or : (N : List Field) (f : Field) → symbol N f ≡ (if eqb (symbol-word (symbol [] f)) 0 then named 0 N f else symbol [] f)
+symbol-or : (N : List Field) (f : Field) → symbol N f ≡ (if eqb (joined (symbol [] f)) 0 then named 0 N f else symbol [] f)
 unfolding symbol named
 symbol-or N f = spelt-or vocabulary f (is-decimal f) (value f) (named 0 N f) spoken
 
 one-byte-is : (N : List Field) (x : ℕ) → Names N → Bytes (x ∷ []) → one-byte-symbol (map packed N) (x ∷ []) ≡ symbol N (x ∷ [])
-unfolding one-byte-symbol short-word
+unfolding one-byte-symbol short-symbol
 one-byte-is N x p q = rw (named-packed 0 N (x ∷ []) p q) (sym (symbol-or N (x ∷ [])))
 
 -- A field of another length is one of the three longer words, a decimal or a name.
@@ -121,7 +119,7 @@ one-byte-is N x p q = rw (named-packed 0 N (x ∷ []) p q) (sym (symbol-or N (x 
 not-single : (f : Field) (x : ℕ) → (length f ≡ 1 → ⊥) → same f (x ∷ []) ≡ false
 not-single f x h = other-lengths f (x ∷ []) h
 
-spelt-long : (f : Field) (y : Means) → (length f ≡ 1 → ⊥) →
+spelt-long : (f : Field) (y : Symbol) → (length f ≡ 1 → ⊥) →
     spelt-in vocabulary f y
     ≡ (if same f (bytes "true")
     then operation (constant yes-no 1)
@@ -168,8 +166,10 @@ named-names [] p = tt
 named-names (n ∷ N) p = (is-a-name n (p .0), named-names N (p .1))
 
 -- Where the packed names are those of N, a visible field is N's symbol.
-pub symbol-meant : (M : List ℕ) (f : Field) (N : List Field) → Named N → M ≡ map packed N → is-visible f ≡ true → symbol-by M f ≡ symbol N f
-symbol-meant M f N p m v = ap (λ (X : List ℕ). symbol-by X f) m ∙ symbol-is N f (named-names N p) (visible-bytes f v)
+pub meant : (M : List ℕ) (f : Field) (r : ℕ) → r ≡ joined (symbol-by M f) →
+    (r ≡ joined (symbol-by M f)) × ((N : List Field) → Named N → M ≡ map packed N → is-visible f ≡ true → r ≡ joined (symbol N f))
+meant M f r e =
+    (e, λ N p m v. e ∙ ap (λ (X : List ℕ). joined (symbol-by X f)) m ∙ ap joined (symbol-is N f (named-names N p) (visible-bytes f v)))
 
 -- Words are small.
 
@@ -181,11 +181,11 @@ below : Below vocabulary
 unfolding Below symbol-word op-word
 below = (omega arith, (omega arith, (omega arith, (omega arith, (omega arith, (omega arith, (omega arith, (omega arith, (omega arith, (omega arith, (omega arith, (omega arith, (omega arith, (omega arith, (omega arith, (omega arith, (omega arith, (omega arith, (omega arith, (omega arith, (omega arith, tt)))))))))))))))))))))
 
-if-below : (t : Bool) (y z : Means) (n : ℕ) → symbol-word y ≤ n → symbol-word z ≤ n → symbol-word (if t then y else z) ≤ n
+if-below : (t : Bool) (y z : Symbol) (n : ℕ) → symbol-word y ≤ n → symbol-word z ≤ n → symbol-word (if t then y else z) ≤ n
 if-below true y z n p q = p
 if-below false y z n p q = q
 
-spelt-below : (ws : List Word) (f : Field) (y : Means) (n : ℕ) → Below ws → 21 ≤ n → symbol-word y ≤ n → symbol-word (spelt-in ws f y) ≤ n
+spelt-below : (ws : List Word) (f : Field) (y : Symbol) (n : ℕ) → Below ws → 21 ≤ n → symbol-word y ≤ n → symbol-word (spelt-in ws f y) ≤ n
 unfolding spelt-in Below
 spelt-below [] f y n p h q = q
 spelt-below (w ∷ ws) f y n p h q = if-below (same f (w .spelt)) (w .means) (spelt-in ws f y) n (omega (arith, p .0)) (spelt-below ws f y n (p .1) h q)
@@ -211,7 +211,7 @@ words-below : (n : ℕ) → 21 ≤ n → (symbol-word (operation (constant yes-n
 unfolding symbol-word op-word
 words-below n h = (omega arith, omega arith, omega arith)
 
-decimal-below : (f : Field) (y : Means) (n : ℕ) → 21 ≤ n → symbol-word y ≤ n → symbol-word (decimal-or f y) ≤ n
+decimal-below : (f : Field) (y : Symbol) (n : ℕ) → 21 ≤ n → symbol-word y ≤ n → symbol-word (decimal-or f y) ≤ n
 unfolding decimal-or
 decimal-below f y n h p = if-below (is-decimal f) (operation (constant number (value f))) y n (nine-below (value f) n h) p
 
@@ -220,8 +220,8 @@ unfolding symbol named
 plain-below f n h = spelt-below vocabulary f _ n below h (if-below (is-decimal f) (operation (constant number (value f))) unknown n (nine-below (value f) n h) (none-below n))
 
 one-byte-below : (M : List ℕ) (f : Field) (n : ℕ) → 32 + length M ≤ n → symbol-word (one-byte-symbol M f) ≤ n
-unfolding one-byte-symbol
-one-byte-below M f n h = if-below (eqb (short-word (getD f 0 0)) 0) (named-as 0 M (packed f)) (symbol [] (getD f 0 0 ∷ [])) n (named-below 0 M (packed f) n (omega arith)) (plain-below (getD f 0 0 ∷ []) n (omega arith))
+unfolding one-byte-symbol short-symbol
+one-byte-below M f n h = if-below (eqb (joined (short-symbol (getD f 0 0))) 0) (named-as 0 M (packed f)) (short-symbol (getD f 0 0)) n (named-below 0 M (packed f) n (omega arith)) (plain-below (getD f 0 0 ∷ []) n (omega arith))
 
 some-bytes-below : (M : List ℕ) (f : Field) (n : ℕ) → 32 + length M ≤ n → symbol-word (some-bytes-symbol M f) ≤ n
 unfolding some-bytes-symbol
@@ -246,11 +246,11 @@ words-spelt : Words-spelt vocabulary
 unfolding Words-spelt Spelt
 words-spelt = (omega arith, (omega arith, (omega arith, (omega arith, (omega arith, (omega arith, (omega arith, (omega arith, (tt, (tt, (tt, (tt, (tt, (tt, (tt, (tt, (tt, (tt, (tt, (tt, (tt, tt)))))))))))))))))))))
 
-if-spelt : (t : Bool) (y z : Means) → Spelt y → Spelt z → Spelt (if t then y else z)
+if-spelt : (t : Bool) (y z : Symbol) → Spelt y → Spelt z → Spelt (if t then y else z)
 if-spelt true y z p q = p
 if-spelt false y z p q = q
 
-spelt-spelt : (ws : List Word) (f : Field) (y : Means) → Words-spelt ws → Spelt y → Spelt (spelt-in ws f y)
+spelt-spelt : (ws : List Word) (f : Field) (y : Symbol) → Words-spelt ws → Spelt y → Spelt (spelt-in ws f y)
 unfolding spelt-in Words-spelt
 spelt-spelt [] f y p q = q
 spelt-spelt (w ∷ ws) f y p q = if-spelt (same f (w .spelt)) (w .means) (spelt-in ws f y) (p .0) (spelt-spelt ws f y (p .1) q)

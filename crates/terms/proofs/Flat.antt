@@ -11,6 +11,7 @@ use Rattle.meaning.specs.Arithmetic.{Sort, yes-no, Op, op-constant}
 use Rattle.meaning.specs.Text.{Line}
 use Rattle.meaning.specs.Terms.{Term, arg, op, cond, call, Terms, nil, cons, Symbol, argument, operation, condition, function, unknown, Wrong, Takes, takes, cannot, Read, got, fault, first-terms, other-terms, strict-of, condition-of, applied, with-arguments, and-more, then-more, read-row, read-taken, read-term, argument-takes, takes-of, same-sort, if-sort}
 use Rattle.meaning.specs.Code.{size, sizes, count}
+use Rattle.accepted.proofs.Reading.{parted-sizes}
 use Rattle.table.specs.Table.{symbol-word, symbol-value, op-word, term-words, row-words, term-values, row-values, term-ends, row-ends}
 
 unfoldable mutual
@@ -98,12 +99,6 @@ parted-symbols zero ts = refl
 parted-symbols (suc k) nil = refl
 parted-symbols (suc k) (cons t ts) =
     append-assoc (term-symbols t) (row-symbols (first-terms k ts)) (row-symbols (other-terms k ts)) ∙ ap (λ (l : List Symbol). term-symbols t ++ l) (parted-symbols k ts)
-
-parted-sizes : (k : ℕ) (ts : Terms) → sizes (first-terms k ts) + sizes (other-terms k ts) ≡ sizes ts
-unfolding first-terms other-terms size
-parted-sizes zero ts = omega arith
-parted-sizes (suc k) nil = refl
-parted-sizes (suc k) (cons t ts) = omega (arith, parted-sizes k ts)
 
 parted-ends : (k : ℕ) (ts : Terms) (a : ℕ) → row-ends (first-terms k ts) a ++ row-ends (other-terms k ts) (a + sizes (first-terms k ts)) ≡ row-ends ts a
 unfolding first-terms other-terms term-ends size

@@ -1,7 +1,7 @@
 -- What a symbol takes by its word is what it takes by the definition. Assumes nothing.
 use mathlib.Core.Path.{_≡_, refl, ap, sym, _∙_}
 use mathlib.Core.Bool.{Bool, true, false}
-use mathlib.Core.Option.{none, some}
+use mathlib.Core.Option.{none}
 use mathlib.Core.List.{List, [], _∷_, map}
 use Prim.Native.Nat.{ℕ, zero, suc, _+_, _-_, _*_, _/_, _%_, _^_, _<_, _≤_}
 use native.Mathlib.Omega.{arith}
@@ -15,11 +15,12 @@ use Rattle.meaning.specs.Text.{Line}
 use Rattle.meaning.specs.Terms as means
 use Rattle.meaning.specs.Terms.{Symbol, argument, operation, condition, function, unknown, argument-takes, call-takes, takes-of, same-sort, if-sort}
 use Rattle.meaning.specs.Answers.{sort-number}
+use Rattle.accepted.proofs.Reading.{element}
 use Rattle.table.specs.Table.{symbol-word, op-word, mask, signature}
 use Rattle.table.proofs.Signatures.{sort-small, signature-count, signature-result, signature-sorts}
 use Rattle.symbols.specs.Symbols.{Spelt}
 use Rattle.lines.specs.Lines.{line-signature}
-use Rattle.terms.specs.Terms.{wrong-code, shown-takes, signed-by, argument-by, function-by, operations, takes-by, Few, World}
+use Rattle.terms.specs.Terms.{wrong-code, shown-takes, signed-by, argument-by, function-by, operation-by, takes-by, Few, World}
 use Rattle.terms.specs.declared.Takes.the-variants.{Args, Cannot}
 
 -- Sorts as numbers.
@@ -39,11 +40,6 @@ mask-bit (s ∷ S) (suc i) h =
     let half : (sort-number s + 2 * mask S) / 2 ≡ mask S = omega (arith, sort-small s) in
     rw (pow-succ' 2 i, ← div-div-eq-div-mul (sort-number s + 2 * mask S) 2 (2 ^ i), half) (mask-bit S i (omega (arith, h)))
 
-element : (G : List Sort) (i : ℕ) → i < length G → getElem? G i ≡ some (getD G i number)
-element [] i h = absurd (omega (arith, h))
-element (s ∷ G) zero h = refl
-element (s ∷ G) (suc i) h = element G i (omega (arith, h))
-
 no-element : (G : List Sort) (i : ℕ) → length G ≤ i → getElem? G i ≡ none
 no-element [] i h = refl
 no-element (s ∷ G) zero h = absurd (omega (arith, h))
@@ -62,7 +58,7 @@ signed-is S k r s h =
 
 -- Operations.
 op-is : (H : List ℕ) (own : ℕ) (o : Op) (s : Sort) → takes-by H own (sort-number s) (op-word o) ≡ shown-takes (if-sort s (means.takes (domain o) (range o)))
-unfolding takes-by op-word signed-by operations sort-number shown-takes wrong-code if-sort same-sort domain range mask
+unfolding takes-by op-word signed-by operation-by sort-number shown-takes wrong-code if-sort same-sort domain range mask
 op-is H own (constant number v) number = refl
 op-is H own (constant number v) yes-no = refl
 op-is H own (constant yes-no v) number = refl

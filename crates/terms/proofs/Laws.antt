@@ -21,7 +21,7 @@ use Rattle.table.specs.Table.{symbol-word, term-ends, row-ends, mask}
 use Rattle.symbols.specs.Symbols.{Spelt, All-spelt}
 use Rattle.lines.specs.Splice.{splice}
 use Rattle.lines.proofs.Splice.{splice-none, splice-more, splice-head}
-use Rattle.terms.specs.Terms.{wrong-code, Reached, Next, Fault, faults, reached, shown-takes, signed-by, argument-by, function-by, operations, takes-by, World, Symbols, Said, Saids, Told, Tolds, Whole, Within}
+use Rattle.terms.specs.Terms.{wrong-code, Reached, Next, Fault, faults, reached, shown-takes, signed-by, argument-by, function-by, operation-by, takes-by, World, Symbols, Said, Saids, Told, Tolds, Whole, Within}
 use Rattle.terms.specs.declared.Takes.{Takes}
 use Rattle.terms.specs.declared.Takes.the-variants.{Args, Cannot}
 use Rattle.terms.proofs.Flat.{term-symbols, map-append, symbol-count, end-count, size-one, Applies, Node, node, takes-applies, sorted, Taken, Takens, taken-term, taken-terms}
@@ -309,10 +309,10 @@ unfolding Within
 within-more n at next (Next p) h x = (x .0, omega (arith, x .1))
 within-more n at next (Fault w p) h x = x
 
--- Few arguments, and codes that fit.
+-- Codes that fit.
 
 Fits : Takes → Type 0
-Fits (Args n m) = n < 16
+Fits (Args n m) = Unit {0}
 Fits (Cannot w) = (0 < w) × (w < faults)
 
 either-fits : (b : Bool) (x y : Takes) → Fits x → Fits y → Fits (if b then x else y)
@@ -330,12 +330,12 @@ code-fits means.too-deep = (omega arith, omega arith)
 
 signed-fits : (s h : ℕ) → Fits (signed-by s h)
 unfolding signed-by Fits
-signed-fits s h = either-fits (eqb (h / 16 % 2) s) (Args (h % 16) (h / 32 % 256)) _ (omega arith) (code-fits means.other-sort)
+signed-fits s h = either-fits (eqb (h / 16 % 2) s) (Args (h % 16) (h / 32 % 256)) _ tt (code-fits means.other-sort)
 
 argument-fits : (own s i : ℕ) → Fits (argument-by own s i)
 unfolding argument-by Fits
 argument-fits own s i =
-    either-fits (ltb i (own % 16)) _ _ (either-fits (eqb (own / 32 % 256 / 2 ^ i % 2) s) (Args 0 0) _ (omega arith) (code-fits means.other-sort)) (code-fits means.lacking-argument)
+    either-fits (ltb i (own % 16)) _ _ (either-fits (eqb (own / 32 % 256 / 2 ^ i % 2) s) (Args 0 0) _ tt (code-fits means.other-sort)) (code-fits means.lacking-argument)
 
 function-fits : (H : List ℕ) (s f : ℕ) → Fits (function-by H s f)
 unfolding function-by
@@ -346,12 +346,8 @@ unfolding takes-by Fits
 takes-fits H own s w =
     either-fits (eqb w 0) _ _ (code-fits means.unknown-symbol)
     (either-fits (ltb w 9) (argument-by own s (w - 1)) _ (argument-fits own s (w - 1))
-    (either-fits (eqb w 21) (Args 3 (1 + 6 * s)) _ (omega arith)
-    (either-fits (ltb w 32) (signed-by s (getD operations w 0)) _ (signed-fits s (getD operations w 0)) (function-fits H s (w - 32)))))
-
-pub few : (H : List ℕ) (own s w n m : ℕ) (t : Takes) → t ≡ takes-by H own s w → t ≡ Args n m → n < 16
-unfolding Fits
-few H own s w n m t p q = subst Fits (sym p ∙ q) (takes-fits H own s w)
+    (either-fits (eqb w 21) (Args 3 (1 + 6 * s)) _ tt
+    (either-fits (ltb w 32) (signed-by s (operation-by w)) _ (signed-fits s (operation-by w)) (function-fits H s (w - 32)))))
 
 pub coded : (H : List ℕ) (own s w k : ℕ) (t : Takes) → t ≡ takes-by H own s w → t ≡ Cannot k → (0 < k) × (k < faults)
 unfolding Fits

@@ -12,7 +12,7 @@ use Rattle.meaning.specs.Terms as means
 use Rattle.meaning.specs.Terms.{Term, Terms, Symbol, Read, got, fault, read-term, read-row, nothing-after}
 use Rattle.meaning.specs.Code.{size, sizes}
 use Rattle.meaning.specs.Answers.{sort-number}
-use Rattle.table.specs.Table.{symbol-word, term-ends, row-ends, mask}
+use Rattle.table.specs.Table.{number-word, truth-word, eq-word, and-word, neg-word, cond-word, first-function, symbol-word, term-ends, row-ends, mask, result-unit, sorts-unit, masks}
 use Rattle.symbols.specs.Symbols.{All-spelt}
 use Rattle.lines.specs.Lines.{line-signature}
 use Rattle.lines.specs.Splice.{splice}
@@ -47,32 +47,43 @@ shown-takes (means.cannot w) = Cannot (wrong-code w)
 
 -- What a symbol takes by its word, in a function that has the signature `own`, where the sort s is expected; the functions have the signatures H.
 unfoldable pub signed-by : ℕ → ℕ → Takes
-signed-by s h = if eqb (h / 16 % 2) s then Args (h % 16) (h / 32 % 256) else Cannot (wrong-code means.other-sort)
+signed-by s h = if eqb (h / result-unit % 2) s then Args (h % result-unit) (h / sorts-unit % masks) else Cannot (wrong-code means.other-sort)
 
 unfoldable pub argument-by : ℕ → ℕ → ℕ → Takes
 argument-by own s i =
-    if ltb i (own % 16)
-    then (if eqb (own / 32 % 256 / 2 ^ i % 2) s then Args 0 0 else Cannot (wrong-code means.other-sort))
+    if ltb i (own % result-unit)
+    then (if eqb (own / sorts-unit % masks / 2 ^ i % 2) s then Args 0 0 else Cannot (wrong-code means.other-sort))
     else Cannot (wrong-code means.lacking-argument)
 
 unfoldable pub function-by : List ℕ → ℕ → ℕ → Takes
 function-by H s f = if ltb f (length H) then signed-by s (getD H f 0) else Cannot (wrong-code means.unknown-symbol)
 
--- The signatures of the symbols below `cond`.
-unfoldable pub operations : List ℕ
-operations = 0 ∷ 0 ∷ 0 ∷ 0 ∷ 0 ∷ 0 ∷ 0 ∷ 0 ∷ 0 ∷ 0 ∷ 16 ∷ 2 ∷ 2 ∷ 2 ∷ 2 ∷ 2 ∷ 18 ∷ 18 ∷ 114 ∷ 114 ∷ 49 ∷ 0 ∷ 0 ∷ 0 ∷ 0 ∷ 0 ∷ 0 ∷ 0 ∷ 0 ∷ 0 ∷ 0 ∷ 0 ∷ []
+-- The signature of a symbol below `cond`.
+unfoldable pub operation-by : ℕ → ℕ
+operation-by w =
+    if ltb w truth-word
+    then 0
+    else if eqb w truth-word
+    then result-unit
+    else if ltb w eq-word
+    then 2
+    else if ltb w and-word
+    then result-unit + 2
+    else if ltb w neg-word
+    then 3 * sorts-unit + result-unit + 2
+    else sorts-unit + result-unit + 1
 
 unfoldable pub takes-by : List ℕ → ℕ → ℕ → ℕ → Takes
 takes-by H own s w =
     if eqb w 0
     then Cannot (wrong-code means.unknown-symbol)
-    else if ltb w 9
+    else if ltb w number-word
     then argument-by own s (w - 1)
-    else if eqb w 21
+    else if eqb w cond-word
     then Args 3 (1 + 6 * s)
-    else if ltb w 32
-    then signed-by s (getD operations w 0)
-    else function-by H s (w - 32)
+    else if ltb w first-function
+    then signed-by s (operation-by w)
+    else function-by H s (w - first-function)
 
 -- The functions that the signatures H stand for, and the sorts of the arguments of one that has the signature `own`.
 unfoldable pub Few : List Line → Type 0
@@ -85,8 +96,8 @@ pub record World (H : List ℕ) (own : ℕ) : Type 0 where
   pub heads : H ≡ map line-signature functions
   pub few-each : Few functions
   pub few : length arguments ≤ most-arguments
-  pub count : own % 16 ≡ length arguments
-  pub sorts : own / 32 % 256 ≡ mask arguments
+  pub count : own % result-unit ≡ length arguments
+  pub sorts : own / sorts-unit % masks ≡ mask arguments
 
 -- The symbols whose words stand from `at` on.
 pub record Symbols (W : List ℕ) (at : ℕ) (ys : List Symbol) : Type 0 where
@@ -109,7 +120,7 @@ pub record Tolds (W H : List ℕ) (own at d n m : ℕ) (e e′ : List ℕ) (r : 
   pub tolds : (w : World H own) (S : List Sort) (ys : List Symbol) → n ≡ length S → m ≡ mask S → Symbols W at ys → Saids W at e e′ (read-row (read-term (w .functions) (w .arguments) d) S ys) r
 
 pub record Whole (W H : List ℕ) (own at : ℕ) (e e′ : List ℕ) (r : Reached) : Type 0 where
-  pub whole : (w : World H own) (σ : Sort) (ys : List Symbol) → own / 16 % 2 ≡ sort-number σ → Symbols W at ys → Said W at e e′ (nothing-after (read-term (w .functions) (w .arguments) most-depth σ ys)) r
+  pub whole : (w : World H own) (σ : Sort) (ys : List Symbol) → own / result-unit % 2 ≡ sort-number σ → Symbols W at ys → Said W at e e′ (nothing-after (read-term (w .functions) (w .arguments) most-depth σ ys)) r
 
 -- A place that was reached lies within n; one after a term lies after `at`.
 unfoldable pub Within : ℕ → ℕ → Reached → Type 0

@@ -2,8 +2,8 @@
 // place; where each term ends goes into a lent table. Each symbol is looked at once. Assumes nothing.
 ghost use mathlib.Core.Path.{_≡_};
 ghost use Prim.Native.Nat.{_+_, _*_, _/_, _%_, _^_, _≤_, _<_};
-ghost use lib.ListN.{length, getD};
-ghost use Rattle.terms.specs.Terms.{faults, reached, Fault, signed-by, argument-by, function-by, operations, takes-by, Told, Tolds, Whole, Within};
+ghost use lib.ListN.{length};
+ghost use Rattle.terms.specs.Terms.{faults, reached, Fault, signed-by, argument-by, function-by, operation-by, takes-by, Told, Tolds, Whole, Within};
 
 // What is wrong at a symbol, as a code.
 pub const UNKNOWN_SYMBOL: usize = 1;
@@ -38,21 +38,26 @@ fn signed(sort: u32, h: u32) -> Takes
     }
 }
 
-fn wide(b: u8) -> u32
-    ensures { λ r. ⌜ r ≡ b ⌝ }
-{
-    b as u32
-}
-
-// What the symbols take by word, as signatures of functions: 9 numbers, 10 `true` and `false`, 11 to 20 the operations `+` to `!`. (A literal stands in
-// the program once; a constant array would be made anew at each look.)
+// The signature of a symbol below `cond`: of a number, `true` or `false`, `+ - * / %`, `= <`, `& |`, `!`.
 fn operation(w: u32) -> u32
-    requires { ⌜ w < 32 ⌝ }
-    ensures { λ r. ⌜ r ≡ getD operations w 0 ⌝ }
+    ensures { λ r. ⌜ r ≡ operation-by w ⌝ }
 {
-    let signs =
-        b"\x00\x00\x00\x00\x00\x00\x00\x00\x00\x00\x10\x02\x02\x02\x02\x02\x12\x12\x72\x72\x31\x00\x00\x00\x00\x00\x00\x00\x00\x00\x00\x00";
-    wide(signs[w as usize])
+    if w < table::TRUTH {
+        return 0;
+    }
+    if w == table::TRUTH {
+        return table::RESULT_UNIT;
+    }
+    if w < table::EQ {
+        return 2;
+    }
+    if w < table::AND {
+        return table::RESULT_UNIT + 2;
+    }
+    if w < table::NOT {
+        return 3 * table::SORTS_UNIT + table::RESULT_UNIT + 2;
+    }
+    table::SORTS_UNIT + table::RESULT_UNIT + 1
 }
 
 fn bit_at(m: u32, i: u32) -> u32
@@ -104,13 +109,6 @@ fn judge(heads: &[u32], own: u32, sort: u32, w: u32) -> Takes
     function(heads, sort, (w - table::FIRST_FUNCTION) as usize)
 }
 
-pub fn narrow(x: usize) -> u32
-    requires { ⌜ x < 4294967296 ⌝ }
-    ensures { λ r. ⌜ r ≡ x ⌝ }
-{
-    x as u32
-}
-
 // What is wrong and where, as one number.
 fn fault(wrong: usize, at: usize) -> usize
     requires { ⌜ (0 < wrong) × (wrong < faults) × (at < faults) ⌝ }
@@ -143,12 +141,12 @@ fn read_term(
         Takes::Cannot(wrong) => fault(wrong, at),
         Takes::Args(count, mask) => {
             if count == 0 {
-                ends[at] = narrow(at + 1);
+                ends[at] = lines::narrow(at + 1);
                 return at + 1;
             }
             let next = read_args(words, heads, own, at + 1, depth - 1, count, mask, ends);
             if next < FAULTS {
-                ends[at] = narrow(next);
+                ends[at] = lines::narrow(next);
                 return next;
             }
             next
@@ -171,14 +169,19 @@ fn read_args(
     ensures read { λ r. ⌜ Tolds (now (words .entry)) (now (heads .entry)) own at depth count mask (now (ends .entry)) (now (ends .exit)) (reached r) ⌝ }
     ensures within { λ r. ⌜ Within (length (now (words .entry))) at (reached r) ⌝ }
 {
-    if count == 0 {
-        return at;
+    let mut a = at;
+    let mut left = count;
+    let mut sorts = mask;
+    while left != 0 {
+        let next = read_term(words, heads, own, a, depth, sorts % 2, ends);
+        if FAULTS <= next {
+            return next;
+        }
+        a = next;
+        left -= 1;
+        sorts = sorts / 2;
     }
-    let next = read_term(words, heads, own, at, depth, mask % 2, ends);
-    if next < FAULTS {
-        return read_args(words, heads, own, next, depth, count - 1, mask / 2, ends);
-    }
-    next
+    a
 }
 
 // A body is one term of its sort and nothing after it: the symbols from `from` on, of a function that has the signature `own`.

@@ -3,9 +3,9 @@ use mathlib.Core.Path.{_≡_, refl, ap, sym, _∙_, subst}
 use mathlib.Core.Bool.{Bool, true, false}
 use mathlib.Core.Option.{Option, none, some}
 use mathlib.Core.List.{List, [], _∷_, map}
-use Prim.Native.Nat.{ℕ, zero, suc, _+_, _-_, _≤_, _<_}
+use Prim.Native.Nat.{ℕ, zero, suc, _+_, _-_, _≤_}
 use native.Mathlib.Omega.{arith}
-use lib.ListN.{length, take, drop, getD, getElem?, length-drop}
+use lib.ListN.{length, take, drop, getElem?, length-drop}
 use lib.Seq.{drop-cons, take-all}
 use borrow.Author.Tests.{leb-true}
 use Rattle.meaning.specs.Basics.{if_then_else_}
@@ -18,6 +18,7 @@ use Rattle.meaning.specs.Code.{own, initial}
 use Rattle.meaning.specs.Answers.{fits, all-fit, fitting}
 use Rattle.accepted.specs.Accepted.{Sound, Accepted}
 use Rattle.accepted.proofs.Lines.{both}
+use Rattle.accepted.proofs.Reading.{element}
 use Rattle.accepted.proofs.Accepted.{fine-bind, fine-same, accepted, every-there}
 use Rattle.theorems.proofs.Splitting.{clash}
 use Rattle.theorems.proofs.Sorts.{of-sort, of-sorts, constant-sorted, sorted, row-sorted, Sorted}
@@ -267,15 +268,10 @@ line-of-function (one-body m t r) (suc f) F e = line-of-function r f F e
 
 -- The initial term: the entry applied to its own arguments.
 
-sort-there : (S : List Sort) (i : ℕ) → i < length S → getElem? S i ≡ some (getD S i number)
-sort-there [] i h = absurd (omega arith)
-sort-there (s ∷ S) zero h = refl
-sort-there (s ∷ S) (suc i) h = sort-there S i (omega arith)
-
 own-sorted : (P : Program) (S : List Sort) (m i : ℕ) → i + m ≤ length S → row-sorted P (own m i) S (take m (drop i S))
 unfolding own row-sorted
 own-sorted P S zero i h = tt
-own-sorted P S (suc m) i h = rw (drop-cons S i number (omega arith)) (sort-there S i (omega arith), own-sorted P S m (suc i) (omega arith))
+own-sorted P S (suc m) i h = rw (drop-cons S i number (omega arith)) (element S i (omega arith), own-sorted P S m (suc i) (omega arith))
 
 initial-sorted : (F : Function) (P : Program) → F .strict ≤ length (F .sorts) → sorted (F ∷ P) (initial (F ∷ P)) (F .sorts) (F .result)
 unfolding initial sorted

@@ -12,5 +12,6 @@ pub mod generate;
 pub mod pages;
 pub mod spec;
 pub mod spoil;
+pub mod stack;
 pub mod vectors;
 pub mod writer;

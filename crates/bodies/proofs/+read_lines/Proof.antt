@@ -18,7 +18,7 @@ use Rattle.bodies.proofs.+read_lines.Lts-read_lines as read-lines-lts
 use Rattle.bodies.proofs.fault.Reads as fault-reads
 use Rattle.bodies.proofs.read_line.Reads as read-line-reads
 use Rattle.fields.proofs.piece_end.Reads as piece-end-reads
-use Rattle.terms.proofs.narrow.Reads as narrow-reads
+use Rattle.lines.proofs.narrow.Reads as narrow-reads
 use Rattle.bodies.proofs.+read_lines.{statement}
 use Rattle.bodies.proofs.+read_lines.Tie.{close}
 

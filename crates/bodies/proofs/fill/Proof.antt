@@ -42,7 +42,7 @@ symbol-of-requires : tie.Need-symbol-of-requires Inv-loop μ-loop
 symbol-of-requires c κs = search needs
 
 word-requires : tie.Need-word-requires Inv-loop μ-loop
-word-requires c κs = laws.word-fits _ _ _ (c .symbol-of .ensures .0) (omega (arith, c .before .before .before .before .before .before .before .before .before .pre .0))
+word-requires c κs = search needs
 
 mul-words : tie.Need-mul-words Inv-loop μ-loop
 mul-words c = search needs
@@ -72,8 +72,8 @@ loop-again c =
       omega (arith, x, l .inv .0),
       simp length-set (l .inv .1),
       simp length-set (l .inv .2),
-      splices.write-on (l .words) (l .j) _ _ _ _ (omega (arith, x, l .inv .0, l .inv .1, c .before .before .before .before .before .before .before .before .before .before .before .pre .1 .0)) (laws.word-is _ _ _ _ (c .before .before .symbol-of .ensures .0) (c .before .word .ensures)) (laws.one-word (c .before .before .before .before .before .before .before .before .before .before .before .args .names .now) (c .before .before .before .before .before .before .before .before .before .before .before .args .line .now) (c .before .before .before .before .before .before .loop .i) _ (c .before .before .before .before .before .loop-test .taken) (c .before .before .before .before .piece-end .ensures .0)) ∙ l .inv .3,
-      splices.write-on (l .values) (l .j) _ _ _ _ (omega (arith, x, l .inv .0, l .inv .2, c .before .before .before .before .before .before .before .before .before .before .before .pre .1 .1)) (laws.value-is _ _ _ _ (c .before .before .symbol-of .ensures .0) (c .value .ensures)) (laws.one-value (c .before .before .before .before .before .before .before .before .before .before .before .args .names .now) (c .before .before .before .before .before .before .before .before .before .before .before .args .line .now) (c .before .before .before .before .before .before .loop .i) _ (c .before .before .before .before .before .loop-test .taken) (c .before .before .before .before .piece-end .ensures .0)) ∙ l .inv .4,
+      splices.write-on (l .words) (l .j) _ _ _ _ (omega (arith, x, l .inv .0, l .inv .1, c .before .before .before .before .before .before .before .before .before .before .before .pre .1 .0)) (laws.word-is _ _ _ _ (c .before .before .symbol-of .ensures .0) (c .before .before .before .before .before .before .before .before .before .before .before .pre .0) (c .before .word .ensures)) (laws.one-word (c .before .before .before .before .before .before .before .before .before .before .before .args .names .now) (c .before .before .before .before .before .before .before .before .before .before .before .args .line .now) (c .before .before .before .before .before .before .loop .i) _ (c .before .before .before .before .before .loop-test .taken) (c .before .before .before .before .piece-end .ensures .0)) ∙ l .inv .3,
+      splices.write-on (l .values) (l .j) _ _ _ _ (omega (arith, x, l .inv .0, l .inv .2, c .before .before .before .before .before .before .before .before .before .before .before .pre .1 .1)) (laws.value-is _ _ _ _ (c .before .before .symbol-of .ensures .0) (c .before .before .before .before .before .before .before .before .before .before .before .pre .0) (c .value .ensures)) (laws.one-value (c .before .before .before .before .before .before .before .before .before .before .before .args .names .now) (c .before .before .before .before .before .before .before .before .before .before .before .args .line .now) (c .before .before .before .before .before .before .loop .i) _ (c .before .before .before .before .before .loop-test .taken) (c .before .before .before .before .piece-end .ensures .0)) ∙ l .inv .4,
     )
 
 same-length : tie.Need-same-length Inv-loop μ-loop

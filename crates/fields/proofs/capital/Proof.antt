@@ -1,6 +1,5 @@
 -- `fields::capital` meets its contract. Assumes nothing.
 use Rattle.fields.proofs.Laws as laws
-use Prim.Native.Nat.{_-_}
 use Rattle.fields.proofs.capital.Statement.{statement}
 use Rattle.fields.proofs.capital.Tie as tie
 

@@ -1,6 +1,5 @@
 -- `fields::digit` meets its contract. Assumes nothing.
 use Rattle.fields.proofs.Laws as laws
-use Prim.Native.Nat.{_-_}
 use Rattle.fields.proofs.digit.Statement.{statement}
 use Rattle.fields.proofs.digit.Tie as tie
 

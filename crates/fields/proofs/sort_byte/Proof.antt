@@ -1,5 +1,4 @@
 -- `fields::sort_byte` meets its contract. Assumes nothing.
-use Prim.Native.Nat.{_-_}
 use borrow.Author.Tests.{eq-eqb, ne-eqb}
 use Rattle.fields.proofs.sort_byte.Statement.{statement}
 use Rattle.fields.proofs.sort_byte.Tie as tie

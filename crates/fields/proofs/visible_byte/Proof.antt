@@ -1,6 +1,5 @@
 -- `fields::visible_byte` meets its contract. Assumes nothing.
 use Rattle.fields.proofs.Laws as laws
-use Prim.Native.Nat.{_-_}
 use Rattle.fields.proofs.visible_byte.Statement.{statement}
 use Rattle.fields.proofs.visible_byte.Tie as tie
 

@@ -2,15 +2,11 @@ use Rattle.fields.specs.Fields.{visible-span}
 use Rattle.fields.proofs.Laws as laws
 use borrow.Author.Needs.{needs}
 use native.Mathlib.Omega.{arith}
-use mathlib.Core.Path.{_≡_, refl, sym, ap, _∙_}
-use Prim.Native.Nat.{ℕ, zero, suc, _+_, _-_, _*_, _/_, _%_, _<_, _≤_}
-use lib.ListN.{length, getD, take, drop}
-use borrow.Author.Tests.{lt-ltb, le-ltb, eq-eqb, ne-eqb, le-leb, lt-leb}
+use mathlib.Core.Path.{_≡_, sym, _∙_}
+use Prim.Native.Nat.{_+_, _-_, _≤_}
+use lib.ListN.{length, drop}
 use Rattle.fields.proofs.visible_end.Statement.{statement}
 use Rattle.fields.proofs.visible_end.Tie as tie
-use Rattle.fields.proofs.visible_end.Reads as reads
-use Rattle.fields.proofs.visible_end.Lts as lts
-use Rattle.fields.proofs.visible_byte.Reads as visible-byte-reads
 
 abbrev Inv-loop : tie.InvT-loop
 Inv-loop s from i₀ i = (i + visible-span (drop i s) ≡ from + visible-span (drop from s)) × (from ≤ i) × (i ≤ length s)

@@ -1,6 +1,5 @@
 -- `lines::sort_bit` meets its contract. Assumes nothing.
 use native.Mathlib.Omega.{arith}
-use Prim.Native.Nat.{_-_}
 use borrow.Author.Tests.{eq-eqb, ne-eqb}
 use Rattle.lines.proofs.sort_bit.Statement.{statement}
 use Rattle.lines.proofs.sort_bit.Tie as tie

@@ -39,9 +39,9 @@ use denote.Triple.Walked.{says, Stays, stay-none-slice, gave-slice, walkOf, goes
 use denote.Exit.{yes}
 use denote.Signature.{plain}
 use Rattle.meaning.specs.declared.Head.{Head}
-use Rattle.nespralha.specs.declared.Found.{Found}
+use Rattle.answers.specs.declared.Found.{Found}
 use Rattle.meaning.specs.Answers.{check-answer, check-heads}
-use Rattle.nespralha.specs.Outcomes.{CheckFound}
+use Rattle.answers.specs.Outcomes.{CheckFound}
 use Rattle.nespralha.proofs.check_text.Symbol.{name as #nespralha·check-text}
 use Rattle.heads.proofs.put_heads.Symbol.{name as #heads·put-heads}
 use Rattle.nespralha.proofs.check.Key.{name as #nespralha·check}
@@ -51,8 +51,8 @@ use Rattle.heads.proofs.Heads as S
 use Rattle.heads.proofs.Heads.Laws as S′
 use Rattle.meaning.proofs.Checked as Vd
 use Rattle.meaning.proofs.Checked.Laws as Vd′
-use Rattle.nespralha.proofs.Found as K
-use Rattle.nespralha.proofs.Found.Laws as K′
+use Rattle.answers.proofs.Found as K
+use Rattle.answers.proofs.Found.Laws as K′
 use Rattle.nespralha.proofs.check_text as core
 use Rattle.nespralha.proofs.check_text.Symbol as core-def
 use Rattle.nespralha.proofs.check_text.Met as core-thm

@@ -5,7 +5,7 @@ use Rattle.meaning.specs.Numbers.{most-functions}
 use Rattle.meaning.specs.declared.Checked.{Checked}
 use borrow.Author.Needs.{needs}
 use Rattle.nespralha.proofs.check_long.Statement.{statement}
-use Rattle.nespralha.proofs.Laws as laws
+use Rattle.answers.proofs.Laws as laws
 use Rattle.nespralha.proofs.check_long.Tie as tie
 
 slice-aggregate-read : tie.Need-slice-aggregate-read
@@ -36,7 +36,11 @@ slice-aggregate-check-table-2 : tie.Need-slice-aggregate-check-table-2
 slice-aggregate-check-table-2 c = search needs
 
 check-table-requires : tie.Need-check-table-requires
-check-table-requires c κs = (subst (λ (x : Checked). x .functions ≤ most-functions) (sym (c .before .before .before .before .before .before .before .before .read .ensures .0)) (laws.few-functions (c .before .before .before .before .before .before .before .before .before .before .before .before .before .before .before .before .args .text .now)), search needs, search needs)
+check-table-requires c κs =
+    let read = c .before .before .before .before .before .before .before .before .read in
+    let text = c .before .before .before .before .before .before .before .before .before .before .before .before .before .before .before .before .args .text .now in
+    let within = laws.heads-within text (read .last .1 .1 .1 .1 .0) (read .last .1 .1 .1 .1 .1 .0) (read .last .1 .1 .1 .1 .1 .1 .0) (read .last .1 .1 .0) (read .last .1 .1 .1 .0) _ (record { judged = read .ensures .0; held = read .ensures .1 }) in
+    (subst (λ (x : Checked). x .functions ≤ most-functions) (sym (read .ensures .0)) (laws.few-functions text), within .0, within .1)
 
 returns : tie.Need-returns
 returns c = c .check-table .ensures (c .before .before .before .before .before .before .before .before .before .before .before .before .before .before .before .before .before .args .text .now) (c .before .before .before .before .before .before .before .before .before .read .last .1 .1 .1 .1 .0) (c .before .before .before .before .before .before .before .before .before .read .last .1 .1 .1 .1 .1 .0) (c .before .before .before .before .before .before .before .before .before .read .last .1 .1 .1 .1 .1 .1 .0) (record { judged = c .before .before .before .before .before .before .before .before .before .read .ensures .0; held = c .before .before .before .before .before .before .before .before .before .read .ensures .1 })

@@ -1,5 +1,5 @@
 -- `nespralha::run` meets its contract. Assumes nothing.
-use Rattle.nespralha.specs.Outcomes.{RunOutcome}
+use Rattle.answers.specs.Outcomes.{RunOutcome}
 use borrow.Author.Needs.{needs}
 use Rattle.nespralha.proofs.run.Statement.{statement}
 use Rattle.nespralha.proofs.run.Tie as tie

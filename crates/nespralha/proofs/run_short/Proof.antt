@@ -1,7 +1,8 @@
 -- `nespralha::run_short` meets its contract. Assumes nothing.
+use Prim.Native.Nat.{_/_}
 use borrow.Author.Needs.{needs}
-use Rattle.reading.proofs.Laws.{fits-short}
-use Rattle.nespralha.specs.Fitting.{short-text}
+use Rattle.reading.proofs.Laws.{fits-half}
+use Rattle.nespralha.specs.Short.{short-text}
 use Rattle.nespralha.proofs.run_short.Statement.{statement}
 use Rattle.nespralha.proofs.run_short.Tie as tie
 
@@ -24,7 +25,7 @@ slice-aggregate-read-6 : tie.Need-slice-aggregate-read-6
 slice-aggregate-read-6 c = search needs
 
 read-requires : tie.Need-read-requires
-read-requires c κs = fits-short _ _ _ _ _ _ _ (search needs) (search needs) (search needs) short-text (search needs) (search needs) (search needs) (search needs)
+read-requires c κs = fits-half _ _ _ _ _ _ _ (short-text / 2) (search needs) (search needs) (search needs) (search needs) (search needs) (search needs) (search needs)
 
 slice-aggregate-run-table : tie.Need-slice-aggregate-run-table
 slice-aggregate-run-table c = search needs

@@ -1,5 +1,5 @@
 -- `nespralha::translate` meets its contract. Assumes nothing.
-use Rattle.nespralha.specs.Outcomes.{TranslateOutcome}
+use Rattle.answers.specs.Outcomes.{TranslateOutcome}
 use borrow.Author.Needs.{needs}
 use Rattle.nespralha.proofs.translate.Statement.{statement}
 use Rattle.nespralha.proofs.translate.Tie as tie

@@ -20,7 +20,7 @@ part-read-counted-start : tie.Need-part-read-counted-start
 part-read-counted-start c = search needs
 
 part-read-counted-end : tie.Need-part-read-counted-end
-part-read-counted-end c = omega (arith, c .before .before .before .before .before .before .before .before .before .before .pre .0 .2, c .before .before .before .before .before .before .before .before .before .before .pre .1 .1 .names-fit (laws.few-lines _ (laws.passes-fine _ _ (c .before .before .counts .ensures) (c .enum-told .given .1))))
+part-read-counted-end c = omega (arith, c .before .before .before .before .before .before .before .before .before .before .pre .0 .2, c .before .before .before .before .before .before .before .before .before .before .pre .1 .1 .names-fit (laws.few-lines _ (c .before .before .before .before .before .before .before .before .before .before .pre .0 .1) (laws.passes-fine _ _ (c .before .before .counts .ensures) (c .enum-told .given .1))))
 
 sub-read-counted-2 : tie.Need-sub-read-counted-2
 sub-read-counted-2 c = search needs
@@ -29,15 +29,15 @@ part-read-counted-start-2 : tie.Need-part-read-counted-start-2
 part-read-counted-start-2 c = search needs
 
 part-read-counted-end-2 : tie.Need-part-read-counted-end-2
-part-read-counted-end-2 c = omega (arith, c .before .before .before .before .before .before .before .before .before .before .before .pre .0 .2, c .before .before .before .before .before .before .before .before .before .before .before .pre .1 .1 .heads-fit (laws.few-lines _ (laws.passes-fine _ _ (c .before .before .before .counts .ensures) (c .before .enum-told .given .1))))
+part-read-counted-end-2 c = omega (arith, c .before .before .before .before .before .before .before .before .before .before .before .pre .0 .2, c .before .before .before .before .before .before .before .before .before .before .before .pre .1 .1 .heads-fit (laws.few-lines _ (c .before .before .before .before .before .before .before .before .before .before .before .pre .0 .1) (laws.passes-fine _ _ (c .before .before .before .counts .ensures) (c .before .enum-told .given .1))))
 
 read-counted-requires : tie.Need-read-counted-requires
 read-counted-requires c κs =
     let text = c .before .before .before .before .before .before .before .before .before .before .before .before .before .before .before .before .args .text .now in
-    let few = (laws.few-lines _ (laws.passes-fine _ _ (c .before .before .before .before .before .before .before .before .counts .ensures) (c .before .before .before .before .before .before .enum-told .given .1))) in
+    let few = (laws.few-lines _ (c .before .before .before .before .before .before .before .before .before .before .before .before .before .before .before .before .pre .0 .1) (laws.passes-fine _ _ (c .before .before .before .before .before .before .before .before .counts .ensures) (c .before .before .before .before .before .before .enum-told .given .1))) in
     let noted = c .before .before .before .before .before .before .before .before .before .before .before .before .before .before .before .before .pre .1 .0 in
     let fit = c .before .before .before .before .before .before .before .before .before .before .before .before .before .before .before .before .pre .1 .1 in
-    ((c .before .before .before .before .before .before .before .before .before .before .before .before .before .before .before .before .pre .0 .0, lines-laws.right-shape text (c .before .before .before .before .before .before .before .before .before .before .before .before .before .before .before .before .pre .0 .1), laws.some-line text (c .before .before .before .before .before .before .before .before .before .before .before .before .before .before .before .before .pre .0 .1), few .0, few .1), ((laws.names-part _ _ _ noted _ (c .before .before .before .before .before .before .before .before .before .before .before .before .before .before .before .before .pre .0 .2) (fit .names-fit few), laws.heads-part _ _ _ noted _ (c .before .before .before .before .before .before .before .before .before .before .before .before .before .before .before .before .pre .0 .2) (fit .heads-fit few)), fit .room few))
+    ((c .before .before .before .before .before .before .before .before .before .before .before .before .before .before .before .before .pre .0 .0, lines-laws.right-shape text (c .before .before .before .before .before .before .before .before .before .before .before .before .before .before .before .before .pre .0 .1), laws.some-line text (c .before .before .before .before .before .before .before .before .before .before .before .before .before .before .before .before .pre .0 .1), few .1, few .2), ((laws.names-part _ _ _ noted _ (c .before .before .before .before .before .before .before .before .before .before .before .before .before .before .before .before .pre .0 .2) (fit .names-fit few), laws.heads-part _ _ _ noted _ (c .before .before .before .before .before .before .before .before .before .before .before .before .before .before .before .before .pre .0 .2) (fit .heads-fit few)), fit .room few))
 
 enum-known-number : tie.Need-enum-known-number
 enum-known-number c = search needs

@@ -1,7 +1,6 @@
 -- `reading::refused` meets its contract. Assumes nothing.
 use mathlib.Core.Path.{refl}
 use Rattle.reading.specs.Reading.{refusal}
-use Prim.Native.Nat.{_-_}
 use Rattle.reading.proofs.refused.Statement.{statement}
 use Rattle.reading.proofs.refused.Tie as tie
 

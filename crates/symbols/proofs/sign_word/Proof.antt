@@ -1,7 +1,6 @@
 -- `symbols::sign_word` meets its contract. Assumes nothing.
 use borrow.Author.Tests.{eq-eqb, ne-eqb}
 use Rattle.symbols.specs.Symbols.{sign-by}
-use Prim.Native.Nat.{_-_}
 use Rattle.symbols.proofs.sign_word.Statement.{statement}
 use Rattle.symbols.proofs.sign_word.Tie as tie
 

@@ -1,11 +1,11 @@
-//! The judge: figures, vectors, examples, pages and generated cases, then 'N passed, M failed'.
+//! The judge: figures, vectors, examples, pages, the stack and generated cases, then 'N passed, M failed'.
 
 use outside::boundary::{Answer, Checked, DEEP, HALT, LINKED, NUMBER_NAMES};
 use outside::compare::compare;
 use outside::demands::{hold, Verdict};
 use outside::generate::{self, Case};
 use outside::spec::{arguments_fit, code, machine, text};
-use outside::{examples, figures, pages, vectors};
+use outside::{examples, figures, pages, stack, vectors};
 use std::collections::BTreeMap;
 use std::process::exit;
 use std::sync::atomic::{AtomicU64, AtomicUsize, Ordering::Relaxed};
@@ -67,6 +67,7 @@ fn main() {
         ("lines of base.txt", vectors::hold()),
         ("looks at examples/", examples::hold(program.as_deref())),
         ("looks at the pages", pages::hold()),
+        ("texts in a small stack", stack::hold()),
     ];
     if let Some(program) = program {
         held.push(("inputs of the program", vectors::hold_program(&program, options.seed)));

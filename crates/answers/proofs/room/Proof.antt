@@ -1,8 +1,8 @@
--- `nespralha::room` meets its contract. Assumes nothing.
+-- `answers::room` meets its contract. Assumes nothing.
 use Rattle.meaning.specs.Numbers.{no}
 use borrow.Author.Needs.{needs}
-use Rattle.nespralha.proofs.room.Statement.{statement}
-use Rattle.nespralha.proofs.room.Tie as tie
+use Rattle.answers.proofs.room.Statement.{statement}
+use Rattle.answers.proofs.room.Tie as tie
 
 returns : tie.Need-returns
 unfolding no

@@ -7,7 +7,7 @@ use native.Mathlib.Omega.{arith}
 use native.Mathlib.Numerals.{add-one}
 use native.Mathlib.Decide.{ℕ-discrete}
 use lib.Dec.{eqb, leb}
-use lib.ListN.{length, getD, take, drop, replicate, drop-of-length-le}
+use lib.ListN.{length, getD, take, drop, replicate, drop-of-length-le, length-append, length-map}
 use lib.Seq.{drop-cons, take-at}
 use borrow.Author.Tests.{eq-eqb, ne-eqb, le-leb, lt-leb}
 use Rattle.fields.proofs.Laws.{and-false}
@@ -17,7 +17,7 @@ use Rattle.meaning.specs.Numbers.{most-functions, no, ARGS, ROOM, instruction-w
 use Rattle.meaning.specs.Text.{Verdict, fine, refused, _>>=_, _>>_}
 use Rattle.meaning.specs.Terms.{Program}
 use Rattle.meaning.specs.Check.{check}
-use Rattle.meaning.specs.Code.{translation, code-words}
+use Rattle.meaning.specs.Code.{size, initial, translation, code-words}
 use Rattle.meaning.specs.Machine.{start, run, run-program}
 use Rattle.meaning.specs.Answers.{checked, admit-translate, admit-run, judge-room, judge-arguments, with-code, cleared, answered, ran, fits, all-fit, fitting, zero-words, sort-number, translate-answer, translate-code, with-heads, heads-of, admit-check, check-answer, check-heads, run-answer, run-code, run-work}
 use Rattle.meaning.specs.declared.Checked.{Checked}
@@ -29,14 +29,14 @@ use Rattle.accepted.proofs.Refused.{proper, check-proper}
 use Rattle.accepted.proofs.Accepted.{accepted}
 use Rattle.accepted.proofs.Length.{words-of-written}
 use Rattle.heads.specs.Heads.{no-head, heads-by}
-use Rattle.heads.proofs.Laws.{heads-meant, accepted-small, heads-length}
-use Rattle.nespralha.specs.declared.Found.{Found}
+use Rattle.heads.proofs.Laws.{addresses-length, heads-meant, accepted-small, heads-length}
+use Rattle.answers.specs.declared.Found.{Found}
 use Rattle.meaning.specs.declared.Head.{Head}
 use Rattle.coding.specs.Coding.{Translated}
 use Rattle.layout.specs.Decoding.{decode, first-entrance}
 use Rattle.layout.proofs.Translated.{run-translated}
-use Rattle.nespralha.specs.Outcomes.{CheckFound, IsRead, TranslateOutcome, RunOutcome}
-use Rattle.nespralha.specs.Fitting.{fits-sort, masked, fits-signature, no-room, refusal}
+use Rattle.answers.specs.Outcomes.{CheckFound, IsRead, TranslateOutcome, RunOutcome}
+use Rattle.answers.specs.Fitting.{fits-sort, masked, fits-signature, no-room, refusal}
 
 -- Arguments.
 
@@ -134,6 +134,23 @@ fewer (refused n l f) h = omega arith
 
 pub few-functions : (text : List ℕ) → checked (check text) .functions ≤ most-functions
 few-functions text = fewer (check text) (λ P e. accepted text P e .few-functions)
+
+begins-within : (xs ys : List ℕ) → Begins xs ys → length ys ≤ length xs
+begins-within xs ys b = omega (arith, ap length (b .whole), length-append ys (b .rest))
+
+-- Arrays that hold the signatures and addresses of an accepted text reach so far.
+held-within : (x : Verdict Program) (heads bodies : List ℕ) → ((P : Program) → x ≡ fine P → (Begins heads (signatures P)) × Begins bodies (addresses P))
+    → (checked x .functions ≤ length heads) × (checked x .functions ≤ length bodies)
+unfolding checked signatures addresses
+held-within (fine P) heads bodies h =
+    let b = h P refl in (
+      omega (arith, begins-within heads (signatures P) (b .0), length-map P (λ F. signature (F .sorts) (F .strict) (F .result))),
+      omega (arith, begins-within bodies (addresses P) (b .1), addresses-length P (size (initial P))),
+    )
+held-within (refused n l f) heads bodies h = (omega arith, omega arith)
+
+pub heads-within : (text words values ends heads bodies : List ℕ) (c : Checked) → IsRead text c words values ends heads bodies → (c .functions ≤ length heads) × (c .functions ≤ length bodies)
+heads-within text words values ends heads bodies c r = rw (r .judged) (held-within (check text) heads bodies (λ P e. (r .held P e .heads-held, r .held P e .bodies-held)))
 
 by-verdict : (x : Verdict Program) (lent : ℕ) → checked x .functions ≤ lent → (x >>= λ P. judge-room (leb (length P) lent) >> fine P) ≡ x
 unfolding checked _>>=_ _>>_ judge-room

@@ -1,8 +1,8 @@
--- `nespralha::value_fits` meets its contract. Assumes nothing.
-use Rattle.nespralha.specs.Fitting.{fits-sort}
+-- `answers::value_fits` meets its contract. Assumes nothing.
+use Rattle.answers.specs.Fitting.{fits-sort}
 use borrow.Author.Tests.{eq-eqb, ne-eqb}
-use Rattle.nespralha.proofs.value_fits.Statement.{statement}
-use Rattle.nespralha.proofs.value_fits.Tie as tie
+use Rattle.answers.proofs.value_fits.Statement.{statement}
+use Rattle.answers.proofs.value_fits.Tie as tie
 
 returns : tie.Need-returns
 unfolding fits-sort

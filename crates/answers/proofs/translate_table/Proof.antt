@@ -1,8 +1,8 @@
--- `nespralha::translate_table` meets its contract. Assumes nothing.
+-- `answers::translate_table` meets its contract. Assumes nothing.
 use borrow.Author.Needs.{needs}
-use Rattle.nespralha.proofs.translate_table.Statement.{statement}
-use Rattle.nespralha.proofs.Laws as laws
-use Rattle.nespralha.proofs.translate_table.Tie as tie
+use Rattle.answers.proofs.translate_table.Statement.{statement}
+use Rattle.answers.proofs.Laws as laws
+use Rattle.answers.proofs.translate_table.Tie as tie
 
 returns : tie.Need-returns
 returns c = λ text bodies I. laws.told-refused text (c .before .before .before .before .before .before .before .args .words .now) (c .before .before .before .before .before .before .before .args .values .now) (c .before .before .before .before .before .before .before .args .ends .now) (c .before .before .before .before .before .before .before .args .heads .now) bodies (c .before .before .before .before .before .before .before .args .c) I (c .before .before .before .before .before .before .before .args .code .now) (c .if1 .taken)

@@ -1,5 +1,5 @@
 -- Arguments against a signature, and the refusals as answers. Assumes nothing.
-use mathlib.Core.Bool.{Bool, true, false, _&&_}
+use mathlib.Core.Bool.{Bool, true, _&&_}
 use mathlib.Core.List.{List, [], _∷_}
 use Prim.Native.Nat.{ℕ, _/_, _%_}
 use lib.Dec.{leb, eqb}
@@ -9,10 +9,6 @@ use Rattle.meaning.specs.Numbers.{no, ROOM}
 use Rattle.meaning.specs.declared.Checked.{Checked}
 use Rattle.meaning.specs.declared.Answer.{Answer}
 use Rattle.table.specs.Table.{result-unit, sorts-unit, masks}
-
--- A text of at most so many bytes is read into a short table.
-abbrev pub short-text : ℕ
-short-text = 128
 
 -- A value fits a sort by its number; values fit sorts that are a mask, the first in the lowest bit.
 unfoldable pub fits-sort : ℕ → ℕ → Bool

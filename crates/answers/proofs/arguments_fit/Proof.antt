@@ -1,9 +1,9 @@
--- `nespralha::arguments_fit` meets its contract. Assumes nothing.
+-- `answers::arguments_fit` meets its contract. Assumes nothing.
 use borrow.Author.Tests.{eq-eqb, ne-eqb}
-use Rattle.nespralha.specs.Fitting.{fits-signature}
+use Rattle.answers.specs.Fitting.{fits-signature}
 use borrow.Author.Needs.{needs}
-use Rattle.nespralha.proofs.arguments_fit.Statement.{statement}
-use Rattle.nespralha.proofs.arguments_fit.Tie as tie
+use Rattle.answers.proofs.arguments_fit.Statement.{statement}
+use Rattle.answers.proofs.arguments_fit.Tie as tie
 
 cast-count : tie.Need-cast-count
 cast-count c = search needs

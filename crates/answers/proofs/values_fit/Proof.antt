@@ -1,13 +1,13 @@
--- `nespralha::values_fit` meets its contract. Assumes nothing.
-use Rattle.nespralha.specs.Fitting.{masked}
+-- `answers::values_fit` meets its contract. Assumes nothing.
+use Rattle.answers.specs.Fitting.{masked}
 use borrow.Author.Needs.{needs}
 use native.Mathlib.Omega.{arith}
 use mathlib.Core.Path.{_≡_, _∙_}
 use Prim.Native.Nat.{_-_}
 use lib.ListN.{length, drop}
-use Rattle.nespralha.proofs.values_fit.Statement.{statement}
-use Rattle.nespralha.proofs.Laws as laws
-use Rattle.nespralha.proofs.values_fit.Tie as tie
+use Rattle.answers.proofs.values_fit.Statement.{statement}
+use Rattle.answers.proofs.Laws as laws
+use Rattle.answers.proofs.values_fit.Tie as tie
 
 abbrev Inv-loop : tie.InvT-loop
 Inv-loop sorts args m₀ i₀ m i = masked m (drop i args) ≡ masked sorts args

@@ -11,7 +11,7 @@ use Rattle.meaning.specs.declared.Checked.{Checked}
 use Rattle.meaning.specs.declared.Answer.{Answer}
 use Rattle.meaning.specs.declared.Head.{Head}
 use Rattle.meaning.specs.Numbers.{most-functions}
-use Rattle.nespralha.specs.declared.Found.{Found}
+use Rattle.answers.specs.declared.Found.{Found}
 use Rattle.table.specs.Table.{Holds}
 
 -- The text is judged as c says, and its table stands in the slices where it is accepted.

@@ -1,9 +1,9 @@
--- `nespralha::check_table` meets its contract. Assumes nothing.
+-- `answers::check_table` meets its contract. Assumes nothing.
 use mathlib.Core.Path.{refl}
 use borrow.Author.Needs.{needs}
-use Rattle.nespralha.proofs.check_table.Statement.{statement}
-use Rattle.nespralha.proofs.Laws as laws
-use Rattle.nespralha.proofs.check_table.Tie as tie
+use Rattle.answers.proofs.check_table.Statement.{statement}
+use Rattle.answers.proofs.Laws as laws
+use Rattle.answers.proofs.check_table.Tie as tie
 
 cast-n : tie.Need-cast-n
 cast-n c = search needs

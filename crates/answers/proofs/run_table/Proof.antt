@@ -1,13 +1,13 @@
--- `nespralha::run_table` meets its contract. Assumes nothing.
+-- `answers::run_table` meets its contract. Assumes nothing.
 use Prim.Native.Nat.{_*_}
 use native.Mathlib.Omega.{arith}
 use mathlib.Core.Path.{sym}
 use lib.Seq.{length-take-le}
 use Rattle.meaning.specs.Numbers.{no}
 use borrow.Author.Needs.{needs}
-use Rattle.nespralha.proofs.run_table.Statement.{statement}
-use Rattle.nespralha.proofs.Laws as laws
-use Rattle.nespralha.proofs.run_table.Tie as tie
+use Rattle.answers.proofs.run_table.Statement.{statement}
+use Rattle.answers.proofs.Laws as laws
+use Rattle.answers.proofs.run_table.Tie as tie
 
 refused-requires : tie.Need-refused-requires
 refused-requires c κs = search needs
