@@ -3,7 +3,7 @@
  * Every function takes any input: any bytes, any arguments, any limit, slices of any length (a pointer and then a length;
  * a length counts elements). What it answers and what each lent slice holds afterwards is fixed for every case and proved.
  * A pointer is not NULL and aligned for its elements, also where its length is 0; slices that are written overlap no other.
- * A call takes less than 64 KB of stack, whatever the text, and nothing from a heap.
+ * A call takes nothing from a heap, and less than 64 KB of stack: that is tried with the texts that recurse deepest, not proved.
  */
 #ifndef NESPRALHA_H
 #define NESPRALHA_H
