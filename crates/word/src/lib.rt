@@ -1,65 +1,65 @@
-// Arithmetic on the engine's numbers: one function for each operation of document 01, proved equal to its definition in meaning's page Arithmetic,
-// and `operate`, which goes by an operation's number. Assumes nothing.
+// The arithmetic page: what the ten operations of a rule do with numbers of 32 bits, one function each, in document 01's order.
+// "All arithmetic on numbers is modulo 2^32": a sum, difference or product is worked out in 64 bits, where it has room, and its remainder by 2^32 is kept.
+// Each function is proved equal, at all numbers, to its definition on meaning's page Arithmetic; the examples here are computed in specs/Examples.antt.
+// `operate` goes by an operation's number. Assumes nothing.
 ghost use mathlib.Core.Path.{_≡_};
 ghost use Prim.Native.Nat.{_+_, _-_, _%_};
 ghost use Rattle.meaning.specs.Arithmetic.{modulus, sum, product, quotient, remainder, equal, less, both, either, opposite};
 ghost use Rattle.word.specs.Operated.{operated};
 
-// The last operation's number, and the only one that takes one value: `!`.
-pub const NEGATION: u32 = 10;
+// 2^32. Numbers run from 0 to 4294967295, one below it.
+const MODULUS: u64 = 4294967296;
 
+// `+`: the sum, modulo 2^32. 4294967295 + 1 is 0.
 fn plus(a: u32, b: u32) -> u32
     ensures { λ r. ⌜ r ≡ sum a b ⌝ }
 {
-    std::num::wrapping_add_u32(a, b)
+    ((a as u64 + b as u64) % MODULUS) as u32
 }
 
-// A word as a size, to count and index with.
-pub fn wide(a: u32) -> usize
-    ensures { λ r. ⌜ r ≡ a ⌝ }
-{
-    a as usize
-}
-
-// `difference`, written out.
+// `-`: the difference, modulo 2^32; with 2^32 added first it is never below 0. "so 3 - 4294967290 is 9": a counter that has passed its top gives what was used.
 fn minus(a: u32, b: u32) -> u32
     ensures { λ r. ⌜ r ≡ (a + (modulus - b)) % modulus ⌝ }
 {
-    std::num::wrapping_sub_u32(a, b)
+    ((a as u64 + MODULUS - b as u64) % MODULUS) as u32
 }
 
-// The whole product fits 64 bits.
+// `*`: the product, modulo 2^32. 65536 * 65537 is 65536.
 fn times(a: u32, b: u32) -> u32
     ensures { λ r. ⌜ r ≡ product a b ⌝ }
 {
-    let whole = (a as u64) * (b as u64);
-    (whole % 4294967296) as u32
+    ((a as u64 * b as u64) % MODULUS) as u32
 }
 
+// `/`: "`/` and `%` round down; with a divisor of 0 both give 0." 4294967295 / 2 is 2147483647.
 fn divided(a: u32, b: u32) -> u32
     ensures { λ r. ⌜ r ≡ quotient a b ⌝ }
 {
     if b == 0 { 0 } else { a / b }
 }
 
+// `%`: what a division leaves. 4294967295 % 10 is 5.
 fn left_over(a: u32, b: u32) -> u32
     ensures { λ r. ⌜ r ≡ remainder a b ⌝ }
 {
     if b == 0 { 0 } else { a % b }
 }
 
+// `=`: "Yes is 1, no is 0." 4294967295 = 4294967295 is 1, 4294967295 = 0 is 0.
 fn same(a: u32, b: u32) -> u32
     ensures { λ r. ⌜ r ≡ equal a b ⌝ }
 {
     if a == b { 1 } else { 0 }
 }
 
+// `<`: numbers are compared as they stand. 3 < 4294967290 is 1, though the counter that shows 3 may have passed its top.
 fn below(a: u32, b: u32) -> u32
     ensures { λ r. ⌜ r ≡ less a b ⌝ }
 {
     if a < b { 1 } else { 0 }
 }
 
+// `&`: yes where both are. "`&` and `|` work out both sides." 1 & 0 is 0.
 fn and(a: u32, b: u32) -> u32
     ensures { λ r. ⌜ r ≡ both a b ⌝ }
 {
@@ -69,6 +69,7 @@ fn and(a: u32, b: u32) -> u32
     if b == 0 { 0 } else { 1 }
 }
 
+// `|`: yes where either is. 1 | 0 is 1.
 fn or(a: u32, b: u32) -> u32
     ensures { λ r. ⌜ r ≡ either a b ⌝ }
 {
@@ -78,11 +79,15 @@ fn or(a: u32, b: u32) -> u32
     1
 }
 
+// `!`: yes where it is not. ! 1 is 0.
 fn not(a: u32) -> u32
     ensures { λ r. ⌜ r ≡ opposite a ⌝ }
 {
     if a == 0 { 1 } else { 0 }
 }
+
+// The last operation's number, and the only one that takes one value: `!`.
+pub const NEGATION: u32 = 10;
 
 // The operation of this number, 1 to 9 at two values and 10 at the first; 0 for any other number.
 pub fn operate(number: u32, a: u32, b: u32) -> u32
@@ -101,4 +106,11 @@ pub fn operate(number: u32, a: u32, b: u32) -> u32
         NEGATION => not(a),
         _ => 0,
     }
+}
+
+// A word as a size, to count and index with.
+pub fn wide(a: u32) -> usize
+    ensures { λ r. ⌜ r ≡ a ⌝ }
+{
+    a as usize
 }

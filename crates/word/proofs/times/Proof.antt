@@ -5,8 +5,8 @@ use Rattle.word.proofs.Laws.{whole-product-fits}
 use Rattle.word.proofs.times.Statement.{statement}
 use Rattle.word.proofs.times.Tie as tie
 
-mul-whole : tie.Need-mul-whole
-mul-whole c = record { fits = whole-product-fits 32 (search needs) (search needs) }
+mul-result : tie.Need-mul-result
+mul-result c = record { fits = whole-product-fits 32 (search needs) (search needs) }
 
 cast-result : tie.Need-cast-result
 cast-result c = search needs
@@ -16,4 +16,4 @@ unfolding product
 returns c = search needs
 
 pub times-spec : {M : Type 1} → statement M
-times-spec = tie.close (tie.spec mul-whole cast-result returns)
+times-spec = tie.close (tie.spec mul-result cast-result returns)
