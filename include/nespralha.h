@@ -28,7 +28,8 @@ enum nespralha_number {
     NESPRALHA_ROOM = 8,   /* a lent slice is too short */
     NESPRALHA_FUEL = 9,   /* step limit met */
     NESPRALHA_DEEP = 10,  /* a step would make a stack 513 high */
-    NESPRALHA_STUCK = 11  /* the machine has no next step and hasn't stopped */
+    NESPRALHA_STUCK = 11, /* the machine has no next step and hasn't stopped */
+    NESPRALHA_ZERO = 12   /* the next step divides by 0 */
 };
 
 /* What a caller lends so that no accepted text is refused with ROOM. */
@@ -59,7 +60,7 @@ struct nespralha_checked nespralha_check(const uint8_t *text, size_t text_len, s
 /* On acceptance the first 12 * `instructions` code words are written, the rest unchanged; on refusal all are unchanged. */
 struct nespralha_checked nespralha_translate(const uint8_t *text, size_t text_len, uint32_t *code, size_t code_len);
 
-/* After 0, 9, 10 or 11 the code words are as Translate leaves them, the first 8,192 work words are 0, the others unchanged;
+/* After 0 and after 9 to 12 the code words are as Translate leaves them, the first 8,192 work words are 0, the others unchanged;
  * after 1 to 8 both slices are unchanged. */
 struct nespralha_answer nespralha_run(const uint8_t *text, size_t text_len, const uint32_t *args, size_t args_len, uint32_t limit,
                                       uint32_t *code, size_t code_len, uint32_t *work, size_t work_len);

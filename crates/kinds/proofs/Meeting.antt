@@ -1,4 +1,4 @@
--- How a step's answer is met: made, too high, or no such step. Assumes nothing.
+-- How a step's answer is met: made, too high, no such step, or a division by 0. Assumes nothing.
 use mathlib.Core.Path.{_≡_, refl, sym, subst}
 use mathlib.Core.Bool.{true}
 use mathlib.Core.Option.{Option}
@@ -7,11 +7,11 @@ use Prim.Native.Nat.{ℕ, zero, suc, _≤_}
 use native.Mathlib.Omega.{arith}
 use Rattle.meaning.specs.Numbers.{no}
 use Rattle.meaning.specs.Code.{Instruction}
-use Rattle.meaning.specs.Machine.{Next, no-step}
+use Rattle.meaning.specs.Machine.{Next, no-step, zero-division}
 use Rattle.layout.specs.Layout.{Comes, would-be-high}
 use Rattle.kinds.specs.declared.Tally.{Tally}
 use Rattle.kinds.specs.declared.Registers.{Registers}
-use Rattle.kinds.specs.Met.{number-at, ending, Met, Obeyed, is-made, is-deep, is-stuck}
+use Rattle.kinds.specs.Met.{number-at, ending, Met, Obeyed, is-made, is-deep, is-stuck, is-zero}
 
 pub going-on : (h : ℕ) → 1 ≤ h → 9 ≡ number-at h
 unfolding number-at no
@@ -31,6 +31,10 @@ meets-deep w o s r t e q = is-deep e q refl
 pub meets-stuck : (w : List ℕ) (o : Next) (s r : Registers) (t : Tally) → o ≡ no-step → r ≡ ending s 11 → Met t o s r w w
 unfolding no
 meets-stuck w o s r t e q = is-stuck e q refl
+
+pub meets-zero : (w : List ℕ) (o : Next) (s r : Registers) (t : Tally) → o ≡ zero-division → r ≡ ending s 12 → Met t o s r w w
+unfolding no
+meets-zero w o s r t e q = is-zero e q refl
 
 -- the same of an equal step and an equal tally
 pub meets-as : (w v : List ℕ) (o p : Next) (s r : Registers) (t u : Tally) → p ≡ o → t ≡ u → Met t o s r w v → Met u p s r w v

@@ -1,15 +1,15 @@
 -- EXEC over the values that words hold: a constant, an operation on two values, and `!`. Assumes nothing.
-use mathlib.Core.Path.{_≡_, refl}
+use mathlib.Core.Path.{_≡_, refl, _∙_}
 use mathlib.Core.Option.{some}
 use mathlib.Core.List.{List, [], _∷_}
 use Prim.Native.Nat.{ℕ, zero, suc, _+_, _-_, _≤_, _<_}
 use native.Mathlib.Omega.{arith}
-use native.Mathlib.Decide.{ℕ-discrete}
 use lib.ListN.{length, getD}
 use borrow.Author.Tests.{ne-eqb}
-use Rattle.meaning.specs.Arithmetic.{Op, add, sub, mul, div, rem, eq, lt, and, or, neg, op-number, domain, apply, of-none}
-use Rattle.meaning.specs.Machine.{Place, at, Environment, state, next, no-step, taken, execute, push-result, obey, rewrites}
-use Rattle.word.specs.Operated.{operated, operates-on-two, operates-on-one}
+use Rattle.meaning.specs.Arithmetic.{Op, add, sub, mul, div, rem, eq, lt, and, or, opposite, op-number, domain, apply, of-none, of-one}
+use Rattle.meaning.specs.Machine.{Place, at, Environment, state, next, no-step, zero-division, taken, execute, push-result, obey, rewrites}
+use Rattle.word.specs.declared.Worked.the-variants.{Value, ByZero}
+use Rattle.word.specs.Operated.{applied, operated, operates-on-two}
 use Rattle.layout.specs.Decoding.{operation, an-exec}
 use Rattle.layout.specs.Layout.{values-from, stored, values}
 
@@ -55,20 +55,39 @@ module _ (v b : ℕ) (rs : List Place) (es : List Environment) where
   unfolding obey an-exec operation execute taken domain apply of-none push-result
   exec-constant k e ds = rw e
 
-  exec-on-two : (k : ℕ) → 1 ≤ k → k ≤ 9 → (x y : ℕ) (ds : List ℕ) → obey (an-exec (operation k v) b) rs (y ∷ x ∷ ds) es ≡ next (state (at b) rs (operated k x y ∷ ds) es)
-  unfolding obey an-exec execute taken push-result
+  exec-on-two : (k : ℕ) → 1 ≤ k → k ≤ 9 → (x y : ℕ) (ds : List ℕ) → obey (an-exec (operation k v) b) rs (y ∷ x ∷ ds) es ≡ push-result (applied (operated k x y)) b rs ds es
+  unfolding obey an-exec execute taken
   exec-on-two k l m x y ds =
       let p = binary k v l m in
       rw (p .decodes, p .takes-two, operates-on-two (p .o) (p .takes-two) x y, p .numbered)
 
-  pub exec-two : (w : List ℕ) (k held d : ℕ) → 1 ≤ k → k ≤ 10 → (k ≡ 10 → ⊥) → (d ≡ 0 → ⊥) → (d ≡ 1 → ⊥)
-      → obey (an-exec (operation k v) b) rs (values w held d) es ≡ next (state (at b) rs (values w (operated k (getD w (values-from + (d - 1)) 0) held) (d - 1)) es)
-  unfolding values stored
-  exec-two w k held zero z l n p q = absurd (p refl)
-  exec-two w k held (suc zero) z l n p q = absurd (q refl)
-  exec-two w k held (suc (suc d)) z l n p q =
-      let e : suc (suc d) - 1 ≡ suc d = omega arith in
-      rw e (exec-on-two k (omega arith) (omega arith) (getD w (values-from + suc d) 0) held (stored w d))
+  module _ (w : List ℕ) (k held d : ℕ) (z : 1 ≤ k) (l : k ≤ 10) (n : k ≡ 10 → ⊥) (p : 2 ≤ d) where
+    abbrev below : ℕ
+    below = getD w (values-from + (d - 1)) 0
+
+    exec-two : obey (an-exec (operation k v) b) rs (values w held d) es ≡ push-result (applied (operated k below held)) b rs (stored w (d - 2)) es
+    unfolding values stored
+    exec-two = by d p
+      where
+        by : (d : ℕ) → 2 ≤ d → obey (an-exec (operation k v) b) rs (values w held d) es ≡ push-result (applied (operated k (getD w (values-from + (d - 1)) 0) held)) b rs (stored w (d - 2)) es
+        by zero p = absurd (omega arith)
+        by (suc zero) p = absurd (omega arith)
+        by (suc (suc d)) p =
+            let e : suc (suc d) - 1 ≡ suc d = omega arith in
+            let f : suc (suc d) - 2 ≡ d = omega arith in
+            rw (e, f) (exec-on-two k (omega arith) (omega arith) (getD w (values-from + suc d) 0) held (stored w d))
+
+    values-left : (x : ℕ) → x ∷ stored w (d - 2) ≡ values w x (d - 1)
+    unfolding values
+    values-left x = let e : d - 1 ≡ suc (d - 2) = omega arith in rw e
+
+    pub exec-gives : (x : ℕ) → operated k below held ≡ Value x → obey (an-exec (operation k v) b) rs (values w held d) es ≡ next (state (at b) rs (values w x (d - 1)) es)
+    unfolding applied push-result
+    exec-gives x e = exec-two ∙ rw (e, values-left x)
+
+    pub exec-divides : operated k below held ≡ ByZero → obey (an-exec (operation k v) b) rs (values w held d) es ≡ zero-division
+    unfolding applied push-result
+    exec-divides e = exec-two ∙ rw e
 
   exec-on-one : (k : ℕ) → 1 ≤ k → k ≤ 9 → (x : ℕ) → obey (an-exec (operation k v) b) rs (x ∷ []) es ≡ no-step
   unfolding obey an-exec execute taken
@@ -78,26 +97,20 @@ module _ (v b : ℕ) (rs : List Place) (es : List Environment) where
   unfolding obey an-exec execute taken
   exec-on-none k l m = let p = binary k v l m in rw (p .decodes, p .takes-two)
 
-  pub exec-one-only : (w : List ℕ) (k held d : ℕ) → 1 ≤ k → k ≤ 10 → (k ≡ 10 → ⊥) → d ≡ 1 → obey (an-exec (operation k v) b) rs (values w held d) es ≡ no-step
+  pub exec-few : (w : List ℕ) (k held d : ℕ) → 1 ≤ k → k ≤ 10 → (k ≡ 10 → ⊥) → d < 2 → obey (an-exec (operation k v) b) rs (values w held d) es ≡ no-step
   unfolding values stored
-  exec-one-only w k held d z l n p = rw p (exec-on-one k (omega arith) (omega arith) held)
+  exec-few w k held zero z l n p = exec-on-none k (omega arith) (omega arith)
+  exec-few w k held (suc zero) z l n p = exec-on-one k (omega arith) (omega arith) held
+  exec-few w k held (suc (suc d)) z l n p = absurd (omega arith)
 
-  negation-none : obey (an-exec (operation 10 v) b) rs [] es ≡ no-step
-  unfolding obey an-exec operation execute taken domain
-  negation-none = refl
+  pub negation-nothing : (w : List ℕ) (k held d : ℕ) → k ≡ 10 → d ≡ 0 → obey (an-exec (operation k v) b) rs (values w held d) es ≡ no-step
+  unfolding values obey an-exec operation execute taken domain
+  negation-nothing w k held d e p = rw (e, p)
 
-  none-by : (k : ℕ) → 1 ≤ k → k ≤ 10 → (t : Dec (k ≡ 10)) → obey (an-exec (operation k v) b) rs [] es ≡ no-step
-  none-by k z l (yes e) = rw e negation-none
-  none-by k z l (no n) = exec-on-none k (omega arith) (omega arith)
-
-  pub exec-nothing : (w : List ℕ) (k held d : ℕ) → 1 ≤ k → k ≤ 10 → d ≡ 0 → obey (an-exec (operation k v) b) rs (values w held d) es ≡ no-step
-  unfolding values
-  exec-nothing w k held d z l p = rw p (none-by k z l (ℕ-discrete k 10))
-
-  pub exec-negation : (w : List ℕ) (k held d : ℕ) → k ≡ 10 → (d ≡ 0 → ⊥) → obey (an-exec (operation k v) b) rs (values w held d) es ≡ next (state (at b) rs (values w (operated k held 0) d) es)
-  unfolding values obey an-exec operation execute taken domain push-result op-number
+  pub exec-negation : (w : List ℕ) (k held d : ℕ) → k ≡ 10 → (d ≡ 0 → ⊥) → obey (an-exec (operation k v) b) rs (values w held d) es ≡ next (state (at b) rs (values w (opposite held) d) es)
+  unfolding values obey an-exec operation execute taken domain push-result apply of-one
   exec-negation w k held zero e p = absurd (p refl)
-  exec-negation w k held (suc d) e p = rw (e, operates-on-one neg refl held 0)
+  exec-negation w k held (suc d) e p = rw e
 
   pub exec-unknown : (k : ℕ) → 10 < k → (ds : List ℕ) → obey (an-exec (operation k v) b) rs ds es ≡ no-step
   unfolding obey an-exec operation

@@ -4,9 +4,9 @@ use mathlib.Core.Bool.{true}
 use mathlib.Core.Option.{Option}
 use mathlib.Core.List.{List, _∷_}
 use Prim.Native.Nat.{ℕ, zero, suc, _+_, _≤_, _<_, _^_}
-use Rattle.meaning.specs.Numbers.{no, HALT, FUEL, DEEP, STUCK}
+use Rattle.meaning.specs.Numbers.{no, HALT, FUEL, DEEP, STUCK, ZERO}
 use Rattle.meaning.specs.Code.{Instruction}
-use Rattle.meaning.specs.Machine.{state, at, Next, next, no-step, obey, rewrites}
+use Rattle.meaning.specs.Machine.{state, at, Next, next, no-step, zero-division, obey, rewrites}
 use Rattle.layout.specs.Layout.{returns, values, environments, Good, Comes, would-be-high, opened}
 use Rattle.kinds.specs.declared.Tally.{Tally}
 use Rattle.kinds.specs.declared.Registers.{Registers}
@@ -50,11 +50,12 @@ abbrev pub opening : List ℕ → Registers → ℕ → ℕ → Next
 opening w s a b = next (opened w a b (s .env) (s .high) (s .held) (s .deep))
 
 -- Of the machine's step o, with the tally t after it, from registers s and words w: it was made, and r and v hold what it comes to;
--- or it would make a stack 513 high; or there is none. "A step not made is not counted."
+-- or it would make a stack 513 high; or there is none; or it would divide by 0. "A step not made is not counted."
 pub data Met (t : Tally) (o : Next) (s r : Registers) (w v : List ℕ) : Type 0 where
   is-made : Comes o w v (r .at) (r .env) (r .high) (r .held) (r .deep) → r .number ≡ number-at (r .high) → r .tally ≡ t → Met t o s r w v
   is-deep : would-be-high o ≡ true → r ≡ ending s (no DEEP) → v ≡ w → Met t o s r w v
   is-stuck : o ≡ no-step → r ≡ ending s (no STUCK) → v ≡ w → Met t o s r w v
+  is-zero : o ≡ zero-division → r ≡ ending s (no ZERO) → v ≡ w → Met t o s r w v
 
 -- .. of the machine's step by this instruction, and its own count of rewrites
 abbrev pub Obeyed : Option Instruction → Registers → Registers → List ℕ → List ℕ → Type 0

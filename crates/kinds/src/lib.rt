@@ -1,5 +1,6 @@
 // One step of the machine: registers and a tally by value, one function for each kind of instruction, and the step that goes by the kind.
 // Each function's contract says what it comes to against the machine's own clause for that instruction, for any code words. Assumes nothing.
+use word::Worked;
 ghost use mathlib.Core.Path.{_≡_};
 ghost use mathlib.Core.Option.{some};
 ghost use Prim.Native.Nat.{_+_, _≤_};
@@ -152,7 +153,7 @@ fn look_up(s: Registers, code: &[u32], base: usize, work: &mut [u32]) -> Registe
     open_level(s, v, after, work)
 }
 
-// EXEC of an operation that is no constant: its value in the place of those that it takes.
+// EXEC of an operation that is no constant: its value in the place of those that it takes, or that it would divide by 0.
 fn work_out(s: Registers, code: &[u32], base: usize, work: &[u32]) -> Registers
     requires { ⌜ Running (now work) s × (base + instruction-words ≤ length (now code)) × (1 ≤ getD (now code) (base + operation-word) 0) ⌝ }
     ensures { λ r. ⌜ Obeyed (exec-at (now (code .entry)) base) s r (now (work .entry)) (now (work .entry)) ⌝ }
@@ -162,13 +163,13 @@ fn work_out(s: Registers, code: &[u32], base: usize, work: &[u32]) -> Registers
     if word::NEGATION < operation {
         return s.ended(meaning::STUCK);
     }
-    if deep == 0 {
-        return s.ended(meaning::STUCK);
-    }
     if operation == word::NEGATION {
+        if deep == 0 {
+            return s.ended(meaning::STUCK);
+        }
         return Registers {
             number: meaning::FUEL,
-            held: word::operate(operation, s.held, 0),
+            held: word::not(s.held),
             at: code[base + layout::NEXT],
             env: s.env,
             high: s.high,
@@ -176,12 +177,16 @@ fn work_out(s: Registers, code: &[u32], base: usize, work: &[u32]) -> Registers
             tally: s.tally.rewrite(),
         };
     }
-    if deep == 1 {
+    if deep < 2 {
         return s.ended(meaning::STUCK);
     }
+    let worked = word::operate(operation, work[layout::VALUES + (deep - 1)], s.held);
+    let Worked::Value(v) = worked else {
+        return s.ended(meaning::ZERO);
+    };
     Registers {
         number: meaning::FUEL,
-        held: word::operate(operation, work[layout::VALUES + (deep - 1)], s.held),
+        held: v,
         at: code[base + layout::NEXT],
         env: s.env,
         high: s.high,

@@ -5,9 +5,9 @@ use mathlib.Core.Option.{Option}
 use mathlib.Core.List.{List}
 use Prim.Native.Nat.{ℕ, zero, suc, _+_, _≤_}
 use native.Mathlib.Omega.{arith}
-use Rattle.meaning.specs.Numbers.{HALT, FUEL, DEEP, STUCK}
+use Rattle.meaning.specs.Numbers.{HALT, FUEL, DEEP, STUCK, ZERO}
 use Rattle.meaning.specs.Code.{Instruction}
-use Rattle.meaning.specs.Machine.{State, Next, next, no-step, Ending, ended, run, after-step, unless-high, obey, rewrites, top, too-high}
+use Rattle.meaning.specs.Machine.{State, Next, next, no-step, zero-division, Ending, ended, run, after-step, unless-high, obey, rewrites, top, too-high}
 use Rattle.layout.specs.Layout.{place, returns, values, environments, holds, would-be-high}
 
 module _ (code : ℕ → Option Instruction) (w : List ℕ) (a e held d n r : ℕ) where
@@ -41,9 +41,14 @@ module _ (code : ℕ → Option Instruction) (w : List ℕ) (a e held d n r : �
     unfolding after-step
     run-stuck o = run-by ∙ rw o
 
+    pub run-zero : stepped ≡ zero-division → run code left (holds w a e h held d) n r ≡ ended ZERO 0 n r
+    unfolding after-step
+    run-zero o = run-by ∙ rw o
+
     deep-by : (f : State → Ending) (o : Next) → would-be-high o ≡ true → after-step o n r f ≡ ended DEEP 0 n r
     unfolding after-step unless-high would-be-high
     deep-by f no-step q = absurd (let z : _≡_ {A = ℕ} 0 1 = cc in omega arith)
+    deep-by f zero-division q = absurd (let z : _≡_ {A = ℕ} 0 1 = cc in omega arith)
     deep-by f (next s) q = rw q
 
     pub run-deep : would-be-high stepped ≡ true → run code left (holds w a e h held d) n r ≡ ended DEEP 0 n r

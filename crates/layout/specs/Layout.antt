@@ -12,7 +12,7 @@ use lib.Dec.{eqb}
 use lib.ListN.{length, getD, take, drop}
 use Rattle.meaning.specs.Basics.{if_then_else_}
 use Rattle.meaning.specs.Numbers.{most-height, most-arguments, work-words}
-use Rattle.meaning.specs.Machine.{value, waiting, Frame, Environment, Place, stop, at, State, state, Next, next, no-step, too-high}
+use Rattle.meaning.specs.Machine.{value, waiting, Frame, Environment, Place, stop, at, State, state, Next, next, no-step, zero-division, too-high}
 use Rattle.layout.specs.Decoding.{row}
 
 abbrev pub level-words : ℕ
@@ -107,6 +107,7 @@ pub record Comes (o : Next) (w v : List ℕ) (a e h held d : ℕ) : Type 0 where
 -- The step exists and would make a stack 513 high.
 unfoldable pub would-be-high : Next → Bool
 would-be-high no-step = false
+would-be-high zero-division = false
 would-be-high (next s) = too-high s
 
 -- A level more, at a and to go on at b, with the environment below the frame of level e: what a waiting argument opens.

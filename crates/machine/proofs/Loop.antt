@@ -12,15 +12,15 @@ use borrow.Author.Tests.{ne-eqb}
 use Rattle.meaning.specs.Arithmetic.{truth}
 use Rattle.meaning.specs.Numbers.{no, work-words}
 use Rattle.meaning.specs.Code.{Instruction, EVAL, EXEC, SELECT, CALL, RET}
-use Rattle.meaning.specs.Machine.{State, no-step, Ending, run, top, rewrites}
+use Rattle.meaning.specs.Machine.{State, no-step, zero-division, Ending, run, top, rewrites}
 use Rattle.meaning.specs.Answers.{ran}
 use Rattle.layout.specs.Decoding.{decode}
 use Rattle.layout.specs.Layout.{values, holds, Good, Comes, would-be-high}
 use Rattle.layout.proofs.Levels.{not-high}
-use Rattle.layout.proofs.Runs.{run-halt, run-fuel, run-next, run-stuck, run-deep}
+use Rattle.layout.proofs.Runs.{run-halt, run-fuel, run-next, run-stuck, run-deep, run-zero}
 use Rattle.kinds.specs.declared.Tally.{Tally}
 use Rattle.kinds.specs.declared.Registers.{Registers}
-use Rattle.kinds.specs.Met.{none-done, counted, number-at, ending, Running, obeys, Met, is-made, is-deep, is-stuck}
+use Rattle.kinds.specs.Met.{none-done, counted, number-at, ending, Running, obeys, Met, is-made, is-deep, is-stuck, is-zero}
 use Rattle.machine.specs.Ends.{value-of, answered}
 
 abbrev holding : List ℕ → Registers → State
@@ -88,6 +88,12 @@ module _ (code w₀ : List ℕ) (limit : ℕ) (whole : Ending) (w v : List ℕ) 
       rw (← q, run-stuck (decode code) w (s .at) (s .env) (s .held) (s .deep) steps (s .tally .rewrites) (s .high) (limit - steps) (limit - (steps + 1)) z one-less o)
   ends-stuck (over m q) o = absurd (m n)
 
+  ends-zero : Stands code limit whole w s → obeys (decode code (s .at)) w s ≡ zero-division → answered (ending s 12) ≡ ran whole
+  unfolding ran no
+  ends-zero (going e z g q) o =
+      rw (← q, run-zero (decode code) w (s .at) (s .env) (s .held) (s .deep) steps (s .tally .rewrites) (s .high) (limit - steps) (limit - (steps + 1)) z one-less o)
+  ends-zero (over m q) o = absurd (m n)
+
   -- a step that was made
   runs-on : Stands code limit whole w s → Comes (obeys (decode code (s .at)) w s) w v (r .at) (r .env) (r .high) (r .held) (r .deep)
       → run (decode code) (limit - (steps + 1)) (holding v r) (steps + 1) (s .tally .rewrites + one) ≡ whole
@@ -115,6 +121,16 @@ module _ (code w₀ : List ℕ) (limit : ℕ) (whole : Ending) (w v : List ℕ) 
       by (some (CALL a k ws b)) = omega arith
       by (some RET) = omega arith
 
+  -- what a step leaves that was not made
+  unmade : (x : ℕ) → (x ≡ 9 → ⊥) → r ≡ ending s x → v ≡ w → answered (ending s x) ≡ ran whole → On code w₀ limit whole v r
+  unmade x other q e o = record {
+    same = same ∙ i .same;
+    kept = ap (drop work-words) e ∙ i .kept;
+    left = rw q (i .left);
+    fewer = rw q (i .fewer);
+    stands = over (rw q other) (rw q o);
+  }
+
   pub turns : Met (counted one (s .tally)) (obeys (decode code (s .at)) w s) s r w v → On code w₀ limit whole v r
   unfolding no
   turns (is-made m q t) = record {
@@ -124,20 +140,9 @@ module _ (code w₀ : List ℕ) (limit : ℕ) (whole : Ending) (w v : List ℕ) 
     fewer = rw t (omega (arith, rewrites-few, i .fewer));
     stands = goes-on (r .high) refl q (m .good) (rw t (runs-on (i .stands) m));
   }
-  turns (is-deep o q e) = record {
-    same = same ∙ i .same;
-    kept = ap (drop work-words) e ∙ i .kept;
-    left = rw q (i .left);
-    fewer = rw q (i .fewer);
-    stands = over (rw q (λ p. omega arith)) (rw q (ends-deep (i .stands) o));
-  }
-  turns (is-stuck o q e) = record {
-    same = same ∙ i .same;
-    kept = ap (drop work-words) e ∙ i .kept;
-    left = rw q (i .left);
-    fewer = rw q (i .fewer);
-    stands = over (rw q (λ p. omega arith)) (rw q (ends-stuck (i .stands) o));
-  }
+  turns (is-deep o q e) = unmade 10 (λ p. omega arith) q e (ends-deep (i .stands) o)
+  turns (is-stuck o q e) = unmade 11 (λ p. omega arith) q e (ends-stuck (i .stands) o)
+  turns (is-zero o q e) = unmade 12 (λ p. omega arith) q e (ends-zero (i .stands) o)
 
   truth-few : (b : Bool) → truth b ≤ 1
   truth-few true = omega arith
@@ -148,6 +153,7 @@ module _ (code w₀ : List ℕ) (limit : ℕ) (whole : Ending) (w v : List ℕ) 
   falls (is-made m q t) = rw (t, n) (omega (arith, truth-few (eqb (r .number) 9)))
   falls (is-deep o q e) = rw (q, n) (omega arith)
   falls (is-stuck o q e) = rw (q, n) (omega arith)
+  falls (is-zero o q e) = rw (q, n) (omega arith)
 
 pub begins : (code w : List ℕ) (a limit : ℕ) (t : Tally) → Good w 1 1 0 → t ≡ none-done
     → On code w limit (run (decode code) limit (holds w a 1 1 0 0) 0 0) w (record { number = 9; held = 0; at = a; env = 1; high = 1; deep = 0; tally = t })

@@ -126,7 +126,8 @@ answered (refused n line field) args limit = record { number = no n; value = 0; 
 unfoldable pub run-answer : List ℕ → List ℕ → ℕ → ℕ → ℕ → Answer
 run-answer text args limit code work = answered (admit-run text args code work) args limit
 
--- "After 0, 9, 10 or 11 from Run the code words are as Translate leaves them, the first 8,192 work words are 0, the others unchanged."
+-- "After 0, 9, 10 or 11 from Run the code words are as Translate leaves them, the first 8,192 work words are 0, the others unchanged." ZERO "leaves memory as
+-- FUEL does".
 unfoldable pub run-code : List ℕ → List ℕ → List ℕ → ℕ → List ℕ
 run-code text args code work = with-code (admit-run text args (length code) work) code
 

@@ -1,11 +1,9 @@
 -- Document 01, 'Rule text': the ten operations on numbers of 32 bits and on yes/no. Assumes nothing.
 use mathlib.Core.Path.{_≡_, refl}
 use mathlib.Core.Bool.{Bool, true, false, not, _&&_, _||_}
-use mathlib.Core.Option.{Option, none, some}
 use mathlib.Core.List.{List, [], _∷_}
-use Prim.Native.Nat.{ℕ, _+_, _-_, _*_, _/_, _%_, _^_}
+use Prim.Native.Nat.{ℕ, zero, suc, _+_, _-_, _*_, _/_, _%_, _^_}
 use lib.Dec.{ltb, eqb}
-use Rattle.meaning.specs.Basics.{if_then_else_}
 
 -- "All arithmetic on numbers is modulo 2^32."
 abbrev pub modulus : ℕ
@@ -28,17 +26,13 @@ difference-wraps = refl
 unfoldable pub product : ℕ → ℕ → ℕ
 product a b = (a * b) % modulus
 
--- "`/` and `%` round down; with a divisor of 0 both give 0." `/`
+-- "`/` and `%` round down". What they come to where the divisor is 0 stands below. `/`
 unfoldable pub quotient : ℕ → ℕ → ℕ
-quotient a b = if eqb b 0 then 0 else a / b
+quotient a b = a / b
 
 -- `%`
 unfoldable pub remainder : ℕ → ℕ → ℕ
-remainder a b = if eqb b 0 then 0 else a % b
-
-pub divisor-zero : quotient 7 0 ∷ remainder 7 0 ∷ quotient 7 2 ∷ remainder 7 2 ∷ [] ≡ 0 ∷ 0 ∷ 3 ∷ 1 ∷ []
-unfolding quotient remainder
-divisor-zero = refl
+remainder a b = a % b
 
 -- "Yes is 1, no is 0." A test as a yes/no, and a yes/no as a test.
 abbrev pub truth : Bool → ℕ
@@ -140,36 +134,58 @@ range and = yes-no
 range or = yes-no
 range neg = yes-no
 
--- A function of no value, of one and of two at a list of values; none where they are not as many.
-unfoldable pub of-none : ℕ → List ℕ → Option ℕ
-of-none v [] = some v
-of-none v (a ∷ vs) = none
+-- What an operation comes to at the values that it is given: a value; no value, because its divisor is 0; or they are not as many as it takes.
+pub data Applied : Type 0 where
+  gives : ℕ → Applied
+  by-zero : Applied
+  unfit : Applied
 
-unfoldable pub of-one : (ℕ → ℕ) → List ℕ → Option ℕ
-of-one f [] = none
-of-one f (a ∷ []) = some (f a)
-of-one f (a ∷ b ∷ vs) = none
+-- A function of no value, of one and of two at a list of values.
+unfoldable pub of-none : ℕ → List ℕ → Applied
+of-none v [] = gives v
+of-none v (a ∷ vs) = unfit
 
-unfoldable pub of-two : (ℕ → ℕ → ℕ) → List ℕ → Option ℕ
-of-two f [] = none
-of-two f (a ∷ []) = none
-of-two f (a ∷ b ∷ []) = some (f a b)
-of-two f (a ∷ b ∷ c ∷ vs) = none
+unfoldable pub of-one : (ℕ → ℕ) → List ℕ → Applied
+of-one f [] = unfit
+of-one f (a ∷ []) = gives (f a)
+of-one f (a ∷ b ∷ vs) = unfit
 
--- The value of an operation at the values that it is given.
-unfoldable pub apply : Op → List ℕ → Option ℕ
+unfoldable pub of-two : (ℕ → ℕ → ℕ) → List ℕ → Applied
+of-two f [] = unfit
+of-two f (a ∷ []) = unfit
+of-two f (a ∷ b ∷ []) = gives (f a b)
+of-two f (a ∷ b ∷ c ∷ vs) = unfit
+
+-- "A divisor of 0 has to stop the run": a value, unless the divisor is 0, and a function of two of which the second divides.
+unfoldable pub unless-zero : ℕ → ℕ → Applied
+unless-zero zero v = by-zero
+unless-zero (suc b) v = gives v
+
+unfoldable pub of-divided : (ℕ → ℕ → ℕ) → List ℕ → Applied
+of-divided f [] = unfit
+of-divided f (a ∷ []) = unfit
+of-divided f (a ∷ b ∷ []) = unless-zero b (f a b)
+of-divided f (a ∷ b ∷ c ∷ vs) = unfit
+
+-- What an operation comes to at the values that it is given.
+unfoldable pub apply : Op → List ℕ → Applied
 apply (constant s v) = of-none v
 apply add = of-two sum
 apply sub = of-two difference
 apply mul = of-two product
-apply div = of-two quotient
-apply rem = of-two remainder
+apply div = of-divided quotient
+apply rem = of-divided remainder
 apply eq = of-two equal
 apply lt = of-two less
 apply and = of-two both
 apply or = of-two either
 apply neg = of-one opposite
 
-pub minus-at-work : apply sub (3 ∷ 4294967290 ∷ []) ≡ some 9
+pub minus-at-work : apply sub (3 ∷ 4294967290 ∷ []) ≡ gives 9
 unfolding apply of-two difference
 minus-at-work = refl
+
+pub divisor-zero : apply div (7 ∷ 0 ∷ []) ∷ apply rem (7 ∷ 0 ∷ []) ∷ apply div (7 ∷ 2 ∷ []) ∷ apply rem (7 ∷ 2 ∷ []) ∷ []
+    ≡ by-zero ∷ by-zero ∷ gives 3 ∷ gives 1 ∷ []
+unfolding apply of-divided unless-zero quotient remainder
+divisor-zero = refl

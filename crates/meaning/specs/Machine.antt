@@ -5,8 +5,8 @@ use mathlib.Core.List.{List, [], _∷_, _++_, map}
 use Prim.Native.Nat.{ℕ, zero, suc, _+_}
 use lib.Dec.{ltb}
 use lib.ListN.{length, getElem?}
-use Rattle.meaning.specs.Arithmetic.{Op, domain, apply}
-use Rattle.meaning.specs.Numbers.{Number, HALT, FUEL, DEEP, STUCK, most-height}
+use Rattle.meaning.specs.Arithmetic.{Op, domain, Applied, gives, by-zero, unfit, apply}
+use Rattle.meaning.specs.Numbers.{Number, HALT, FUEL, DEEP, STUCK, ZERO, most-height}
 use Rattle.meaning.specs.Terms.{Program}
 use Rattle.meaning.specs.Code.{Instruction, EVAL, EXEC, SELECT, CALL, RET, entrance, initial, translation}
 
@@ -32,10 +32,11 @@ pub data Place : Type 0 where
 pub data State : Type 0 where
   state : Place → List Place → List ℕ → List Environment → State
 
--- What one step comes to: a state, or there is no such step.
+-- What one step comes to: a state, or there is no such step, or it would divide by 0.
 pub data Next : Type 0 where
   next : State → Next
   no-step : Next
+  zero-division : Next
 
 -- k values off the data stack, the one that was pushed first leading.
 unfoldable pub taken : ℕ → List ℕ → List ℕ → Option (List ℕ × List ℕ)
@@ -56,9 +57,10 @@ look-up i b rs ds ([] ∷ es) = no-step
 look-up i b rs ds ((f ∷ e) ∷ es) = look-at (getElem? f i) b rs ds f e es
 
 -- EXEC puts the value of its operation in the place of the values that it takes.
-unfoldable pub push-result : Option ℕ → ℕ → List Place → List ℕ → List Environment → Next
-push-result none b rs ds es = no-step
-push-result (some v) b rs ds es = next (state (at b) rs (v ∷ ds) es)
+unfoldable pub push-result : Applied → ℕ → List Place → List ℕ → List Environment → Next
+push-result unfit b rs ds es = no-step
+push-result by-zero b rs ds es = zero-division
+push-result (gives v) b rs ds es = next (state (at b) rs (v ∷ ds) es)
 
 -- An operation with the values that it takes off the stack.
 unfoldable pub execute : Op → Option (List ℕ × List ℕ) → ℕ → List Place → List Environment → Next
@@ -126,10 +128,12 @@ unless-high false n r s go-on = go-on s
 
 unfoldable pub after-step : Next → ℕ → ℕ → (State → Ending) → Ending
 after-step no-step n r go-on = ended STUCK 0 n r
+after-step zero-division n r go-on = ended ZERO 0 n r
 after-step (next s) n r go-on = unless-high (too-high s) n r s go-on
 
 -- "Before each step: stopped, HALT; steps done equal the limit, FUEL; data or return stack would be 513 high, DEEP; no such step, STUCK. A step not
--- made is not counted. Steps and rewrites of a run are carried from step to step." `left` is what the limit leaves, n and r what was done so far.
+-- made is not counted. Steps and rewrites of a run are carried from step to step." ZERO is "judged after FUEL"; a division never makes a stack higher, so
+-- DEEP and ZERO do not meet. `left` is what the limit leaves, n and r what was done so far.
 unfoldable pub run : (ℕ → Option Instruction) → ℕ → State → ℕ → ℕ → Ending
 run code zero (state stop rs ds es) n r = ended HALT (top ds) n r
 run code zero (state (at a) rs ds es) n r = ended FUEL 0 n r

@@ -1,11 +1,11 @@
--- Document 01, 'Numbers the engine answers with': the twelve numbers by name, and the limits that they speak of. Assumes nothing.
+-- Document 01, 'Numbers the engine answers with': the numbers by name, and the limits that they speak of. Assumes nothing.
 use Prim.Native.Nat.{ℕ}
 
 -- The names.
 pub data Number : Type 0 where
   HALT : Number
   LONG LINE COUNT NAME TERM NEST ARGS ROOM : Number
-  FUEL DEEP STUCK : Number
+  FUEL DEEP STUCK ZERO : Number
 
 -- The table: each number is given exactly when what stands behind it holds.
 unfoldable pub no : Number → ℕ
@@ -21,6 +21,7 @@ no ROOM = 8  -- a lent slice is too short
 no FUEL = 9  -- step limit met
 no DEEP = 10  -- a step would make a stack 513 high
 no STUCK = 11  -- the machine has no next step and hasn't stopped
+no ZERO = 12  -- the next step divides by 0
 
 -- The limits, as the table and the sections after it name them.
 abbrev pub most-bytes : ℕ

@@ -56,6 +56,8 @@ pub const DEEP: u32 = 10;
 
 pub const STUCK: u32 = 11;
 
+pub const ZERO: u32 = 12;
+
 // The limits.
 pub const MOST_BYTES: usize = 16384;
 

@@ -5,7 +5,7 @@ use Prim.Native.Nat.{ℕ}
 use Prim.Native.String.{String}
 use Rattle.meaning.specs.Basics.{bytes}
 use Rattle.meaning.specs.Numbers.{no, work-words}
-use Rattle.meaning.specs.Arithmetic.{apply, of-none, of-one, of-two, sum, difference, product, quotient, remainder, equal, less, both, either, opposite}
+use Rattle.meaning.specs.Arithmetic.{apply, of-none, of-one, of-two, unless-zero, of-divided, sum, difference, product, quotient, remainder, equal, less, both, either, opposite}
 use Rattle.meaning.specs.Check.{check-text}
 use Rattle.meaning.specs.Code.{size, count, entrance, entrances, unsorted, code, bodies-code, body-entrances, bodies-size, own, initial, ret-address, translation}
 use Rattle.meaning.specs.Machine.{taken, look-at, look-up, push-result, execute, choose, enter, call-body, go-back, obey, rewrites, too-high, top, unless-high, after-step, run, start, run-program}
@@ -14,7 +14,7 @@ use Rattle.meaning.specs.Program.{most-code-words}
 
 -- Number, value, line, field, steps, rewrites of Run with enough memory lent.
 unfoldable pub six-fields : String → List ℕ → ℕ → List ℕ
-unfolding check-text size count entrance entrances unsorted code bodies-code body-entrances bodies-size own initial ret-address translation apply of-none of-one of-two sum difference product quotient remainder equal less both either opposite taken look-at look-up push-result execute choose enter call-body go-back obey rewrites too-high top unless-high after-step run start run-program run-answer admit-run answered ran judge-arguments judge-room fitting all-fit fits no
+unfolding check-text size count entrance entrances unsorted code bodies-code body-entrances bodies-size own initial ret-address translation apply of-none of-one of-two unless-zero of-divided sum difference product quotient remainder equal less both either opposite taken look-at look-up push-result execute choose enter call-body go-back obey rewrites too-high top unless-high after-step run start run-program run-answer admit-run answered ran judge-arguments judge-room fitting all-fit fits no
 six-fields text args limit =
     let r = run-answer (bytes text) args limit most-code-words work-words in
     r .number ∷ r .value ∷ r .line ∷ r .field ∷ r .steps ∷ r .rewrites ∷ []
@@ -48,7 +48,7 @@ starred-rows =
     ∷ runs pair (5 ∷ 7 ∷ []) 12 (answers 0 5 12 5)
     ∷ runs pair (5 ∷ 7 ∷ []) 11 (answers 9 0 11 5)
     ∷ runs pair (5 ∷ 7 ∷ []) 0 (answers 9 0 0 0)
-    ∷ runs "DIV\t2\tnn\tn\t/\ta\tb\n" (7 ∷ 0 ∷ []) 100 (answers 0 0 8 2)
+    ∷ runs "DIV\t2\tnn\tn\t/\ta\tb\n" (7 ∷ 0 ∷ []) 100 (answers 12 0 5 1)
     ∷ refuses "" 2 1 1
     ∷ refuses "ID\t1\tn\tn\ta" 2 1 0
     ∷ refuses "X\t2\tn\tn\ta\n" 2 1 3

@@ -12,7 +12,7 @@ use Rattle.meaning.specs.Terms.{Term, arg, op, cond, call, Terms, nil, cons, Fu
 use Rattle.meaning.specs.Rewriting.{val, Closeds, none-left, and-then, _followed-by_, argument, put-in, put-all-in, vals, rewrite}
 use Rattle.theorems.proofs.Splitting.{clash, counted, Leads, arrived, RowLeads, row-arrived, row-leads, op-leads, yes-leads, no-leads, call-leads, value-parts, op-parts, cond-parts, call-parts, row-parts, no-parts}
 use Rattle.theorems.proofs.Trees.{Argument, given, waits, Chain, bottom, push, all-wait, call-frame, Tree, entry-argument, value-argument, waiting-argument, operation, yes-branch, no-branch, body, Row, done, then, cost, row-cost}
-use Rattle.theorems.proofs.Sorts.{of-sort, of-sorts, sorted, row-sorted, Sorted, argument-sorted, frame-sorted, chain-sorted, value-there, argument-there, call-frame-sorted, few-operands, few-strict, apply-sorted}
+use Rattle.theorems.proofs.Sorts.{of-sort, of-sorts, sorted, row-sorted, Sorted, argument-sorted, frame-sorted, chain-sorted, value-there, argument-there, call-frame-sorted, apply-sorted, result-sorted}
 
 -- The closed terms that a chain stands for: what is put in for the arguments of a term that stands in it.
 unfoldable pub frame-read : List Argument → Closeds → Closeds
@@ -24,13 +24,13 @@ unfoldable pub chain-read : Chain → Closeds
 chain-read (bottom vs) = vals vs
 chain-read (push f e) = frame-read f (chain-read e)
 
-entry-read : (vs : List ℕ) (i : ℕ) {v : ℕ} → getElem? vs i ≡ some v → argument (vals vs) i ≡ val v
+pub entry-read : (vs : List ℕ) (i : ℕ) {v : ℕ} → getElem? vs i ≡ some v → argument (vals vs) i ≡ val v
 unfolding argument vals
 entry-read [] i h = clash (cc)
 entry-read (x ∷ vs) zero h = cc
 entry-read (x ∷ vs) (suc i) h = entry-read vs i h
 
-given-read : (f : List Argument) (cs : Closeds) (i : ℕ) {v : ℕ} → getElem? f i ≡ some (given v) → argument (frame-read f cs) i ≡ val v
+pub given-read : (f : List Argument) (cs : Closeds) (i : ℕ) {v : ℕ} → getElem? f i ≡ some (given v) → argument (frame-read f cs) i ≡ val v
 unfolding argument frame-read
 given-read [] cs i h = clash (cc)
 given-read (given x ∷ f) cs zero h = cc
@@ -38,7 +38,7 @@ given-read (waits x ∷ f) cs zero h = clash (cc)
 given-read (given x ∷ f) cs (suc i) h = given-read f cs i h
 given-read (waits x ∷ f) cs (suc i) h = given-read f cs i h
 
-waits-read : (f : List Argument) (cs : Closeds) (i : ℕ) {t : Term} → getElem? f i ≡ some (waits t) → argument (frame-read f cs) i ≡ put-in t cs
+pub waits-read : (f : List Argument) (cs : Closeds) (i : ℕ) {t : Term} → getElem? f i ≡ some (waits t) → argument (frame-read f cs) i ≡ put-in t cs
 unfolding argument frame-read
 waits-read [] cs i h = clash (cc)
 waits-read (given x ∷ f) cs zero h = clash (cc)
@@ -51,7 +51,7 @@ unfolding frame-read all-wait put-all-in
 all-wait-read nil cs = refl
 all-wait-read (cons t ws) cs = ap (and-then (put-in t cs)) (all-wait-read ws cs)
 
-call-frame-read : (vs : List ℕ) (ws : Terms) (cs : Closeds) → frame-read (call-frame vs ws) cs ≡ vals vs followed-by put-all-in ws cs
+pub call-frame-read : (vs : List ℕ) (ws : Terms) (cs : Closeds) → frame-read (call-frame vs ws) cs ≡ vals vs followed-by put-all-in ws cs
 unfolding frame-read call-frame vals _followed-by_
 call-frame-read [] ws cs = all-wait-read ws cs
 call-frame-read (v ∷ vs) ws cs = ap (and-then (val v)) (call-frame-read vs ws cs)
@@ -62,32 +62,29 @@ module _ {P : Program} where
   mutual
     unfolding cost put-in chain-read rewrite
 
-    pub tree-leads : {e : Chain} {t : Term} {v : ℕ} (d : Tree P e t v) → Leads P (put-in t (chain-read e)) (cost d .rewrites) v
+    pub tree-leads : {e : Chain} {t : Term} {v : ℕ} (d : Tree P e t v) → Leads P (put-in t (chain-read e)) (cost d) v
     tree-leads (entry-argument {vs = vs} {i = i} h) = arrived (ap (rewrite P) (entry-read vs i h))
     tree-leads (value-argument {f = f} {e = e} {i = i} h) = arrived (ap (rewrite P) (given-read f (chain-read e) i h))
     tree-leads (waiting-argument {f = f} {e = e} {i = i} h d) = rw (waits-read f (chain-read e) i h) (counted (omega arith) (tree-leads d))
-    tree-leads (operation k ds h) = counted (omega arith) (op-leads (row-tree-leads ds) h)
+    tree-leads (operation ds h) = counted (omega arith) (op-leads (row-tree-leads ds) h)
     tree-leads (yes-branch d d′) = counted (omega arith) (yes-leads (tree-leads d) (tree-leads d′))
     tree-leads (no-branch d d′) = counted (omega arith) (no-leads (tree-leads d) (tree-leads d′))
-    tree-leads (body {e = e} {ws = ws} {vs = vs} k ds h d) =
+    tree-leads (body {e = e} {ws = ws} {vs = vs} ds h d) =
         counted (omega arith) (call-leads (row-tree-leads ds) h (rw (call-frame-read vs ws (chain-read e)) at (tree-leads d)))
 
-    row-tree-leads : {e : Chain} {ts : Terms} {vs : List ℕ} (ds : Row P e ts vs)
-        → RowLeads P (put-all-in ts (chain-read e)) (row-cost ds .rewrites) vs
+    pub row-tree-leads : {e : Chain} {ts : Terms} {vs : List ℕ} (ds : Row P e ts vs)
+        → RowLeads P (put-all-in ts (chain-read e)) (row-cost ds) vs
     row-tree-leads done = row-arrived refl
     row-tree-leads (then d ds) = row-leads (tree-leads d) (row-tree-leads ds)
 
 -- From rewriting to trees: by the number of rewrites, then by the length of the chain (a waiting argument keeps the number and loses a frame), then by the term.
 
-one-function : {x : Option Function} (F G : Function) → x ≡ some F → x ≡ some G → F ≡ G
+pub one-function : {x : Option Function} (F G : Function) → x ≡ some F → x ≡ some G → F ≡ G
 one-function F G h k = cc
 
-one-value : {x : Option ℕ} (v w : ℕ) → x ≡ some v → x ≡ some w → v ≡ w
-one-value v w h k = cc
-
 module _ (P : Program) where
-  abbrev Found : Chain → Term → Sort → ℕ → ℕ → Type 0
-  Found e t s n v = (d : Tree P e t v) × (cost d .rewrites ≡ n) × of-sort s v
+  abbrev pub Found : Chain → Term → Sort → ℕ → ℕ → Type 0
+  Found e t s n v = (d : Tree P e t v) × (cost d ≡ n) × of-sort s v
 
   abbrev FoundBelow : ℕ → Type 0
   FoundBelow N =
@@ -95,7 +92,7 @@ module _ (P : Program) where
 
   row-found : (N : ℕ) → FoundBelow N → (e : Chain) (ts : Terms) (G S : List Sort) (m : ℕ) (us : List ℕ) → m < N → chain-sorted P e G
       → row-sorted P ts G S → RowLeads P (put-all-in ts (chain-read e)) m us
-      → (ds : Row P e ts us) × (row-cost ds .rewrites ≡ m) × of-sorts S us
+      → (ds : Row P e ts us) × (row-cost ds ≡ m) × of-sorts S us
   unfolding cost row-sorted put-in of-sorts
   row-found N below e nil G [] m us lt ok ft r = let p = no-parts r in rw (p .0, p .1) (done, refl, tt)
   row-found N below e nil G (s ∷ S) m us lt ok ft r = absurd ft
@@ -134,11 +131,7 @@ module _ (P : Program) where
     term-found e (op o ts) G s n v le ok ft here r =
         let q = op-parts r refl in
         let ds = row-found N below e ts G (domain o) (q .0) (q .1) (omega (arith, q .2)) ok (ft .2) (q .3) in
-        let w = apply-sorted o (ft .1) (q .1) (ds .2) in (
-          operation (few-operands P o ts G (ft .2)) (ds .0) (q .4),
-          omega (arith, q .2, ds .1),
-          subst (λ x. of-sort x v) (ft .0) (subst (of-sort (range o)) (one-value (w .0) v (w .1) (q .4)) (w .2)),
-        )
+        (operation (ds .0) (q .4), omega (arith, q .2, ds .1), subst (λ x. of-sort x v) (ft .0) (result-sorted (range o) (apply-sorted o (ft .1) (q .1) (ds .2)) (q .4)))
     term-found e (cond t x y) G s n v le ok ft here r =
         let q = cond-parts r refl in
         elim (q .3) [
@@ -158,7 +151,7 @@ module _ (P : Program) where
         let in-body : Leads P (put-in (F .body) (frame-read (call-frame (q .2) ws) (chain-read e))) (q .1) v =
         rw (call-frame-read (q .2) ws (chain-read e)) (subst (λ (H : Function). Leads P (put-in (H .body) (vals (q .2) followed-by put-all-in ws (chain-read e))) (q .1) v) (one-function (q .3) F (q .6) (ft .1)) (q .7)) in
         let d = below (push (call-frame (q .2) ws) e) (F .body) (F .sorts) (F .result) (q .1) v (omega (arith, q .4)) (G, ok, call-frame-sorted P F (q .2) ws G (ds .2) (ft .4)) (ok-P f F (ft .1) .1) in-body in (
-          body (few-strict P ok-P f F ss G (ft .1) (ft .3)) (ds .0) (ft .1) (d .0),
+          body (ds .0) (ft .1) (d .0),
           omega (arith, q .4, ds .1, d .1),
           subst (λ x. of-sort x v) (ft .2) (d .2),
         )
@@ -174,8 +167,17 @@ module _ (P : Program) where
   found-below ok-P zero e t G s n v lt = absurd (omega arith)
   found-below ok-P (suc N) e t G s n v lt = chain-found ok-P N (found-below ok-P N) e t G s n v (omega arith)
 
+  -- The same of any number of rewrites, and of a row.
+  pub any-found : Sorted P → (e : Chain) (t : Term) (G : List Sort) (s : Sort) (n v : ℕ) → chain-sorted P e G → sorted P t G s
+      → Leads P (put-in t (chain-read e)) n v → Found e t s n v
+  any-found ok-P e t G s n v = found-below ok-P (suc n) e t G s n v (omega arith)
+
+  pub any-row-found : Sorted P → (e : Chain) (ts : Terms) (G S : List Sort) (m : ℕ) (us : List ℕ) → chain-sorted P e G → row-sorted P ts G S
+      → RowLeads P (put-all-in ts (chain-read e)) m us → (ds : Row P e ts us) × (row-cost ds ≡ m) × of-sorts S us
+  any-row-found ok-P e ts G S m us = row-found (suc m) (found-below ok-P (suc m)) e ts G S m us (omega arith)
+
   pub tree-found : Sorted P → (vs : List ℕ) (t : Term) (G : List Sort) (s : Sort) {n v : ℕ} → of-sorts G vs → sorted P t G s
       → Leads P (put-in t (vals vs)) n v
-      → (d : Tree P (bottom vs) t v) × (cost d .rewrites ≡ n)
+      → (d : Tree P (bottom vs) t v) × (cost d ≡ n)
   unfolding chain-sorted chain-read
   tree-found ok-P vs t G s {n} {v} ok ft r = let p = found-below ok-P (suc n) (bottom vs) t G s n v (omega arith) ok ft r in (p .0, p .1)

@@ -1,13 +1,14 @@
 -- The machine without limits, step by step: a course leads from one state to another in so many steps, with so many rewrites. Courses join, a shorter
 -- one begins every longer one, and they are what `state-after` and `done-in` compute. Assumes nothing.
 use mathlib.Core.Path.{_≡_, refl, ap, sym, _∙_, subst}
+use mathlib.Core.Logic.{_⊎_, inl, inr}
 use mathlib.Core.Option.{Option, none, some}
 use mathlib.Core.List.{List}
 use Prim.Native.Nat.{ℕ, zero, suc, _+_, _≤_, _<_}
 use native.Mathlib.Decide.{decLe}
 use native.Mathlib.Omega.{arith}
 use Rattle.meaning.specs.Code.{Instruction}
-use Rattle.meaning.specs.Machine.{Environment, Place, stop, at, State, state, Next, next, no-step, obey, rewrites}
+use Rattle.meaning.specs.Machine.{Environment, Place, stop, at, State, state, Next, next, no-step, zero-division, obey, rewrites}
 use Rattle.theorems.specs.Unlimited.{step, from-next, state-after, done-in, instruction-at, rewrites-at}
 use Rattle.theorems.proofs.Splitting.{clash}
 
@@ -93,6 +94,64 @@ module _ {code : ℕ → Option Instruction} where
       let p = begins g f (omega arith) in
       has-step (p .4) (omega (arith, p .2))
 
+-- A course of some number of steps, and one that ends before a division by 0.
+module _ (code : ℕ → Option Instruction) where
+  pub data Comes (s : State) (r : ℕ) (s′ : State) : Type 0 where
+    comes : {n : ℕ} → Goes code s n r s′ → Comes s r s′
+
+  pub data Divides (s : State) (r : ℕ) : Type 0 where
+    divides-at : {n a : ℕ} {rs : List Place} {ds : List ℕ} {es : List Environment} → Goes code s n r (state (at a) rs ds es)
+        → obey (code a) rs ds es ≡ zero-division → Divides s r
+
+module _ {code : ℕ → Option Instruction} where
+  infixr 50 _▹_
+  pub _▹_ : {s s′ s″ : State} {r q : ℕ} → Comes code s r s′ → Comes code s′ q s″ → Comes code s (r + q) s″
+  comes f ▹ comes g = comes (f ▸ g)
+
+  pub counting : {s s′ : State} {r q : ℕ} → Comes code s r s′ → r ≡ q → Comes code s q s′
+  counting (comes f) h = comes (timed f refl h)
+
+  pub divides-after : {s s′ : State} {r q : ℕ} → Comes code s r s′ → Divides code s′ q → Divides code s (r + q)
+  divides-after (comes f) (divides-at g o) = divides-at (f ▸ g) o
+
+  pub divides-counting : {s : State} {r q : ℕ} → Divides code s r → r ≡ q → Divides code s q
+  divides-counting {s} g h = subst (λ x. Divides code s x) h g
+
+  from-division : {a k j : ℕ} {rs : List Place} {ds : List ℕ} {es : List Environment} {s : State} → Goes code (state (at a) rs ds es) k j s
+      → obey (code a) rs ds es ≡ zero-division → (k ≡ 0) × (j ≡ 0)
+  from-division stay o = (refl, refl)
+  from-division {rs = rs} {ds = ds} {es = es} (go h o′ f) o = let h′ = ap (λ x. obey x rs ds es) h in clash (cc)
+
+  -- No course passes a division by 0, and one that has not stopped there has made no more rewrites.
+  pub up-to-division : {s s′ : State} {n m r q a : ℕ} {rs : List Place} {ds : List ℕ} {es : List Environment} → Goes code s n r (state (at a) rs ds es)
+      → obey (code a) rs ds es ≡ zero-division → Goes code s m q s′ → (m ≤ n) × (q ≤ r)
+  up-to-division {n = n} {m = m} f o g =
+      elim (decLe n m) [
+        | yes l ↦ (let p = begins f g l in let z = from-division (p .4) o in (omega (arith, p .2, z .0), omega (arith, p .3, z .1)))
+        | no l ↦ (let p = begins g f (omega arith) in (omega arith, omega (arith, p .3)))
+      ]
+
+  -- Where it divides by 0 it does so once, and never stops.
+  pub divides-once : {s : State} {n m r q a b : ℕ} {rs rs′ : List Place} {ds ds′ : List ℕ} {es es′ : List Environment}
+      → Goes code s n r (state (at a) rs ds es) → obey (code a) rs ds es ≡ zero-division
+      → Goes code s m q (state (at b) rs′ ds′ es′) → obey (code b) rs′ ds′ es′ ≡ zero-division → (n ≡ m) × (r ≡ q)
+  divides-once f o g o′ = let p = up-to-division f o g in let p′ = up-to-division g o′ f in (omega (arith, p .0, p′ .0), omega (arith, p .1, p′ .1))
+
+  -- On the way to a division by 0 there is a next step, or it is there.
+  pub step-to-division : {s : State} {m q r a : ℕ} {rs : List Place} {ds : List ℕ} {es : List Environment} → Goes code s m q (state (at a) rs ds es)
+      → Divides code s r → ((s′ : State) × (obey (code a) rs ds es ≡ next s′)) ⊎ (obey (code a) rs ds es ≡ zero-division)
+  step-to-division g (divides-at f o) = let p = begins g f (up-to-division f o g .0) in there (p .4) o
+    where
+      there : {a b k j : ℕ} {rs rs′ : List Place} {ds ds′ : List ℕ} {es es′ : List Environment} → Goes code (state (at a) rs ds es) k j (state (at b) rs′ ds′ es′)
+          → obey (code b) rs′ ds′ es′ ≡ zero-division
+          → ((s′ : State) × (obey (code a) rs ds es ≡ next s′)) ⊎ (obey (code a) rs ds es ≡ zero-division)
+      there stay o = inr o
+      there {rs = rs} {ds = ds} {es = es} (go {s = s} h o′ f) o = inl (s, ap (λ x. obey x rs ds es) h ∙ o′)
+
+  pub stop-or-division : {s : State} {n m r q a : ℕ} {rs rs′ : List Place} {ds ds′ : List ℕ} {es es′ : List Environment}
+      → Goes code s n r (state stop rs ds es) → Goes code s m q (state (at a) rs′ ds′ es′) → obey (code a) rs′ ds′ es′ ≡ zero-division → ⊥
+  stop-or-division f g o = let p = has-step-before-stop f g in clash (cc (p .1))
+
 -- The last step of a course.
 module _ {code : ℕ → Option Instruction} where
   no-steps : {s s′ : State} {m r : ℕ} → Goes code s m r s′ → m ≡ 0 → s ≡ s′
@@ -132,4 +191,5 @@ module _ (code : ℕ → Option Instruction) where
           → ((s₁ : State) → state-after code n s₁ ≡ next s′ → Goes code s₁ n (done-in code (rewrites-at code) n s₁) s′)
           → Goes code (state (at a) rs ds es) (suc n) (from-next x 0 λ s₁. rewrites (code a) + done-in code (rewrites-at code) n s₁) s′
       of no-step h k rec = clash (cc)
+      of zero-division h k rec = clash (cc)
       of (next s₁) h k rec = stepped a rs ds es h (rec s₁ k)

@@ -13,7 +13,7 @@ use Rattle.meaning.specs.Terms.{Program}
 use Rattle.meaning.specs.Check.{check, check-text, found}
 use Rattle.meaning.specs.Code.{translate-text}
 use Rattle.meaning.specs.Machine.{taken, look-at, look-up, push-result, execute, choose, enter, call-body, go-back, obey, rewrites, too-high, ended, top, unless-high, after-step, run, start, run-program}
-use Rattle.meaning.specs.Rewriting.{Rewrite, is-value, becomes, no-rule, rewrite-text, rewrite-times, Reaches, entry-call}
+use Rattle.meaning.specs.Rewriting.{Rewrite, is-value, becomes, meets-zero, no-rule, rewrite-text, rewrite-times, Reaches, entry-call}
 use Rattle.meaning.specs.Answers.{fitting, all-fit, fits}
 use Rattle.theorems.specs.Early.{one-row, early-term, early}
 use Rattle.theorems.specs.Theorems.{EarlyRefuted}
@@ -44,6 +44,7 @@ pair-halts = refl
 is-a-value : Rewrite → Bool
 is-a-value (is-value v) = true
 is-a-value (becomes c) = false
+is-a-value meets-zero = false
 is-a-value no-rule = false
 
 not-early : is-a-value (rewrite-times (early PAIR) 5 (entry-call (early PAIR) five-and-seven)) ≡ false

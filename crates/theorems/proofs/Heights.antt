@@ -6,9 +6,9 @@ use mathlib.Core.List.{List, [], _∷_}
 use Prim.Native.Nat.{ℕ, zero, suc, _+_, _≤_}
 use native.Mathlib.Omega.{arith}
 use lib.ListN.{length, getElem?}
-use Rattle.meaning.specs.Arithmetic.{Op, apply, domain}
+use Rattle.meaning.specs.Arithmetic.{Op, Applied, gives, by-zero, unfit, apply, domain}
 use Rattle.meaning.specs.Code.{Instruction, EVAL, EXEC, SELECT, CALL, RET}
-use Rattle.meaning.specs.Machine.{Slot, value, waiting, Frame, Environment, Place, stop, at, State, state, Next, next, no-step, taken, look-at, look-up, push-result, execute, choose, enter, call-body, go-back, obey}
+use Rattle.meaning.specs.Machine.{Slot, value, waiting, Frame, Environment, Place, stop, at, State, state, Next, next, no-step, zero-division, taken, look-at, look-up, push-result, execute, choose, enter, call-body, go-back, obey}
 use Rattle.theorems.specs.Unlimited.{step, from-next, state-after, done-in, instruction-at, calls, calls-at, returns, returns-at, is-waiting, looked-at, waiting-lookups, waiting-lookups-at, return-height, data-height, environment-height, environments}
 use Rattle.theorems.proofs.Splitting.{clash}
 use Rattle.theorems.proofs.Courses.{next-same}
@@ -52,11 +52,12 @@ look-up-moves i b rs ds [] e = clash (cc)
 look-up-moves i b rs ds ([] ∷ es) e = clash (cc)
 look-up-moves i b rs ds ((f ∷ E) ∷ es) e = look-at-moves (getElem? f i) b rs ds f E es e
 
-push-moves : (x : Option ℕ) (b : ℕ) (rs : List Place) (ds ds′ : List ℕ) (es : List Environment) {s : State} → push-result x b rs ds′ es ≡ next s
+push-moves : (x : Applied) (b : ℕ) (rs : List Place) (ds ds′ : List ℕ) (es : List Environment) {s : State} → push-result x b rs ds′ es ≡ next s
     → length ds′ ≤ length ds → Moves 0 0 rs ds es s
 unfolding push-result
-push-moves none b rs ds ds′ es e l = clash (cc)
-push-moves (some v) b rs ds ds′ es e l = to-state e (omega arith) (omega arith) (omega arith) (omega arith)
+push-moves unfit b rs ds ds′ es e l = clash (cc)
+push-moves by-zero b rs ds ds′ es e l = clash (cc)
+push-moves (gives v) b rs ds ds′ es e l = to-state e (omega arith) (omega arith) (omega arith) (omega arith)
 
 execute-moves : (o : Op) (x : Option (List ℕ × List ℕ)) (b : ℕ) (rs : List Place) (ds : List ℕ) (es : List Environment) {s : State}
     → execute o x b rs es ≡ next s
@@ -126,6 +127,7 @@ module _ (code : ℕ → Option Instruction) where
           ≡ length rs + from-next x 0 (λ s₁. calls (code a) + done-in code (calls-at code) n s₁) + from-next x 0 (λ s₁. waiting-lookups (code a) es + done-in code (waiting-lookups-at code) n s₁))
           × (environment-height s′ + length rs ≡ return-height s′ + length es)
       of no-step h k rec = clash (cc)
+      of zero-division h k rec = clash (cc)
       of (next s₁) h k rec =
           let m = obey-moves (code a) rs ds es h in
           let r = rec s₁ k in

@@ -33,6 +33,11 @@ module _ (C : ℕ → Option Instruction) (bodies : List ℕ) (ret : ℕ) where
     holds-waiting nil a = Unit {0}
     holds-waiting (cons t ts) a = holds t a ret × holds-waiting ts (a + size t)
 
+  -- every body of a row of functions, the first at address a
+  unfoldable pub BodiesHeld : Program → ℕ → Type 0
+  BodiesHeld [] a = Unit {0}
+  BodiesHeld (F ∷ Q) a = holds (F .body) a ret × BodiesHeld Q (a + size (F .body))
+
 pub record Loaded (P : Program) (C : ℕ → Option Instruction) (bodies : List ℕ) (ret : ℕ) : Type 0 where
   pub ret-held : C ret ≡ some RET
   pub body-held : (f : ℕ) (F : Function) → getElem? P f ≡ some F
@@ -124,6 +129,14 @@ module _ (bodies : List ℕ) (ret : ℕ) where
         bodies-hold P (a + size (G .body))
         (stands-right C a (a + size (G .body)) (code bodies ret (G .body) a ret) (bodies-code bodies ret P (a + size (G .body))) h (omega (arith, length-code bodies ret (G .body) a ret))) f F k
 
+    all-held : (P : Program) (a : ℕ) → stands C a (bodies-code bodies ret P a) → BodiesHeld C bodies ret P a
+    unfolding bodies-code BodiesHeld
+    all-held [] a h = tt
+    all-held (G ∷ P) a h = (
+      code-holds (G .body) a ret (stands-left C a (code bodies ret (G .body) a ret) (bodies-code bodies ret P (a + size (G .body))) h),
+      all-held P (a + size (G .body)) (stands-right C a (a + size (G .body)) (code bodies ret (G .body) a ret) (bodies-code bodies ret P (a + size (G .body))) h (omega (arith, length-code bodies ret (G .body) a ret))),
+    )
+
 -- The translation.
 
 abbrev pub entries-of : Program → List ℕ
@@ -163,3 +176,8 @@ module _ (P : Program) where
   unfolding initial-part
   initial-held =
       code-holds (entries-of P) (ret-address P) (code-of P) (initial P) 0 (ret-address P) (stands-left (code-of P) 0 initial-part (bodies-part ++ (RET ∷ [])) all-stands)
+
+  pub all-bodies-held : BodiesHeld (code-of P) (entries-of P) (ret-address P) P (size (initial P))
+  unfolding bodies-part
+  all-bodies-held =
+      all-held (entries-of P) (ret-address P) (code-of P) P (size (initial P)) (stands-left (code-of P) (size (initial P)) bodies-part (RET ∷ []) bodies-stand)

@@ -2,10 +2,12 @@
 
 -- Rewriting splits; trees and their cost; the bound; sorted terms, of which trees and rewriting agree.
 pub mod Splitting
+pub mod Breaking
 pub mod Trees
-pub mod Bound
 pub mod Sorts
 pub mod Agreement
+pub mod Falling
+pub mod Progress
 -- Courses of the machine without limits; the code that it runs on; trees to machine; machine to trees; heights.
 pub mod Courses
 pub mod Holding
@@ -15,6 +17,8 @@ pub mod Heights
 -- The limits; an accepted text is sorted; both ends joined; each ending of a run; which answers come from a run; the counterexample; the statements.
 pub mod Limits
 pub mod Acceptance
+pub mod Targets
+pub mod Paces
 pub mod Wholes
 pub mod Endings
 pub mod Refusals

@@ -10,9 +10,9 @@ use native.Mathlib.Omega.{arith}
 use lib.Dec.{ltb}
 use lib.ListN.{length}
 use borrow.Author.Tests.{ltb-true, ltb-false, lt-ltb, le-ltb}
-use Rattle.meaning.specs.Numbers.{HALT, FUEL, DEEP, STUCK, most-height}
+use Rattle.meaning.specs.Numbers.{HALT, FUEL, DEEP, STUCK, ZERO, most-height}
 use Rattle.meaning.specs.Code.{Instruction}
-use Rattle.meaning.specs.Machine.{Environment, Place, stop, at, State, state, Next, next, no-step, obey, rewrites, too-high, Ending, ended, top, unless-high, after-step, run}
+use Rattle.meaning.specs.Machine.{Environment, Place, stop, at, State, state, Next, next, no-step, zero-division, obey, rewrites, too-high, Ending, ended, top, unless-high, after-step, run}
 use Rattle.theorems.specs.Unlimited.{step, from-next, state-after, return-height, data-height}
 use Rattle.theorems.specs.Limits.{first-too-high}
 use Rattle.theorems.proofs.Splitting.{clash}
@@ -130,6 +130,11 @@ module _ (code : ℕ → Option Instruction) where
       let onward : State → Ending = λ x. run code left x (n + 1) (r + rewrites (code a)) in
       ap (λ x. after-step x n r onward) o ∙ ap (λ b. unless-high b n r s onward) e
 
+  pub run-zero : (a : ℕ) (rs : List Place) (ds : List ℕ) (es : List Environment) (left n r : ℕ) → obey (code a) rs ds es ≡ zero-division
+      → run code (suc left) (state (at a) rs ds es) n r ≡ ended ZERO 0 n r
+  unfolding run after-step
+  run-zero a rs ds es left n r o = ap (λ x. after-step x n r (λ s. run code left s (n + 1) (r + rewrites (code a)))) o
+
   -- What each ending of a run says.
   pub data Says (k : ℕ) (s : State) (n r : ℕ) : Ending → Type 0 where
     halted : {m q v N R : ℕ} {rs : List Place} {ds : List ℕ} {es : List Environment} → Goes code s m q (state stop rs ds es) → Low m s → m ≤ k
@@ -143,6 +148,8 @@ module _ (code : ℕ → Option Instruction) where
         → obey (code a) rs ds es ≡ next s′ → too-high s′ ≡ true → N ≡ n + m → R ≡ r + q → Says k s n r (ended DEEP v N R)
     jammed : {m q a v N R : ℕ} {rs : List Place} {ds : List ℕ} {es : List Environment} → Goes code s m q (state (at a) rs ds es)
         → obey (code a) rs ds es ≡ no-step → Says k s n r (ended STUCK v N R)
+    zeroed : {m q a v N R : ℕ} {rs : List Place} {ds : List ℕ} {es : List Environment} → Goes code s m q (state (at a) rs ds es) → Low m s → m < k
+        → obey (code a) rs ds es ≡ zero-division → N ≡ n + m → R ≡ r + q → Says k s n r (ended ZERO v N R)
 
   said-before : {a k n r : ℕ} {rs : List Place} {ds : List ℕ} {es : List Environment} {s : State} {x : Ending}
       → too-high (state (at a) rs ds es) ≡ false → obey (code a) rs ds es ≡ next s
@@ -154,6 +161,8 @@ module _ (code : ℕ → Option Instruction) where
       fuelled {N = N} {R = R} (stepped a rs ds es o g) (low-before (state (at a) rs ds es) e o low) (omega arith) (omega arith)
   said-before {a} {rs = rs} {ds = ds} {es = es} e o (deepened {N = N} {R = R} g low l p b h h′) =
       deepened {N = N} {R = R} (stepped a rs ds es o g) (low-before (state (at a) rs ds es) e o low) (omega arith) p b (omega arith) (omega arith)
+  said-before {a} {rs = rs} {ds = ds} {es = es} e o (zeroed {N = N} {R = R} g low l p h h′) =
+      zeroed {N = N} {R = R} (stepped a rs ds es o g) (low-before (state (at a) rs ds es) e o low) (omega arith) p (omega arith) (omega arith)
   said-before {a} {rs = rs} {ds = ds} {es = es} e o (jammed g p) = jammed (stepped a rs ds es o g) p
 
   pub says : (k : ℕ) (s : State) (n r : ℕ) → too-high s ≡ false → Says k s n r (run code k s n r)
@@ -177,4 +186,5 @@ module _ (code : ℕ → Option Instruction) where
       of : (x : Next) → obey (code a) rs ds es ≡ x → ((s′ : State) → too-high s′ ≡ false → Says k s′ (n + 1) (r + rewrites (code a)) (onward s′))
           → Says (suc k) (state (at a) rs ds es) n r (after-step x n r onward)
       of no-step h rec = jammed stay h
+      of zero-division h rec = zeroed {N = n} {R = r} stay (low-at (state (at a) rs ds es) low) (omega arith) h (omega arith) (omega arith)
       of (next s) h rec = test s (too-high s) refl h (rec s)

@@ -1,4 +1,4 @@
--- A text, arguments or memory are refused with one of the numbers 1 to 8; so an answer 0, 9, 10 or 11 of Run comes from a run of an admitted text.
+-- A text, arguments or memory are refused with one of the numbers 1 to 8; so an answer 0, 9, 10, 11 or 12 of Run comes from a run of an admitted text.
 -- Assumes nothing.
 use mathlib.Core.Path.{_≡_, refl, ap, sym, _∙_, subst}
 use mathlib.Core.Logic.{_⊎_, inl, inr}
@@ -9,7 +9,7 @@ use native.Mathlib.Omega.{arith}
 use lib.Dec.{leb}
 use lib.ListN.{length, getD}
 use borrow.Author.Tests.{leb-true, le-leb}
-use Rattle.meaning.specs.Numbers.{Number, no, HALT, LONG, LINE, COUNT, NAME, TERM, NEST, ARGS, ROOM, FUEL, DEEP, STUCK, instruction-words, work-words}
+use Rattle.meaning.specs.Numbers.{Number, no, HALT, LONG, LINE, COUNT, NAME, TERM, NEST, ARGS, ROOM, FUEL, DEEP, STUCK, ZERO, instruction-words, work-words}
 use Rattle.meaning.specs.Text.{Verdict, fine, refused, _>>=_, _>>_}
 use Rattle.meaning.specs.Terms.{Program}
 use Rattle.meaning.specs.Check.{check}
@@ -90,7 +90,7 @@ admitted-answer {text} {args} {code} {work} limit {n} {v} {s} {r} A e =
 -- The number names the ending.
 
 numbers : List Number
-numbers = HALT ∷ LONG ∷ LINE ∷ COUNT ∷ NAME ∷ TERM ∷ NEST ∷ ARGS ∷ ROOM ∷ FUEL ∷ DEEP ∷ STUCK ∷ []
+numbers = HALT ∷ LONG ∷ LINE ∷ COUNT ∷ NAME ∷ TERM ∷ NEST ∷ ARGS ∷ ROOM ∷ FUEL ∷ DEEP ∷ STUCK ∷ ZERO ∷ []
 
 numbered : (n : Number) → getD numbers (no n) HALT ≡ n
 unfolding numbers no
@@ -106,6 +106,7 @@ numbered ROOM = refl
 numbered FUEL = refl
 numbered DEEP = refl
 numbered STUCK = refl
+numbered ZERO = refl
 
 number-once : (n m : Number) → no n ≡ no m → n ≡ m
 number-once n m e = sym (numbered n) ∙ ap (λ k. getD numbers k HALT) e ∙ numbered m

@@ -1,14 +1,15 @@
 -- What an accepted program is like: every term has its sort, and every operation and call the terms that it takes. Then no operation is without a
--- value, no condition above 1 and no argument missing. Assumes nothing.
+-- value unless it divides by 0, no condition above 1 and no argument missing. Assumes nothing.
 use mathlib.Core.Path.{_≡_, refl, ap, subst}
 use mathlib.Core.Bool.{Bool, true, false, _&&_, _||_}
+use mathlib.Core.Logic.{_⊎_, inl, inr}
 use mathlib.Core.Option.{some}
 use mathlib.Core.List.{List, [], _∷_, _++_}
 use Prim.Native.Nat.{ℕ, zero, suc, _≤_, _<_}
 use native.Mathlib.Omega.{arith}
 use lib.Dec.{eqb, ltb}
 use lib.ListN.{length, take, drop, getElem?, take-append-drop, length-take}
-use Rattle.meaning.specs.Arithmetic.{Sort, number, yes-no, Op, constant, add, sub, mul, div, rem, eq, lt, and, or, neg, domain, range, apply, of-none, of-one, of-two, truth, is-yes, equal, less, both, either, opposite}
+use Rattle.meaning.specs.Arithmetic.{Sort, number, yes-no, Op, constant, add, sub, mul, div, rem, eq, lt, and, or, neg, domain, range, Applied, gives, by-zero, apply, of-none, of-one, of-two, unless-zero, of-divided, truth, is-yes, equal, less, both, either, opposite}
 use Rattle.meaning.specs.Numbers.{most-arguments}
 use Rattle.meaning.specs.Terms.{Term, arg, op, cond, call, Terms, nil, cons, Function, Program}
 use Rattle.meaning.specs.Code.{count}
@@ -127,7 +128,7 @@ row-count P nil G (s ∷ S) h = absurd h
 row-count P (cons t ts) G [] h = absurd h
 row-count P (cons t ts) G (s ∷ S) h = ap suc (row-count P ts G S (h .1))
 
-two-at-most : (o : Op) → length (domain o) ≤ 2
+pub two-at-most : (o : Op) → length (domain o) ≤ 2
 unfolding domain
 two-at-most (constant s v) = omega arith
 two-at-most add = omega arith
@@ -141,49 +142,62 @@ two-at-most and = omega arith
 two-at-most or = omega arith
 two-at-most neg = omega arith
 
-pub few-operands : (P : Program) (o : Op) (ts : Terms) (G : List Sort) → row-sorted P ts G (domain o) → count ts ≤ most-arguments
-few-operands P o ts G h = omega (arith, row-count P ts G (domain o) h, two-at-most o)
-
 pub few-strict : (P : Program) → Sorted P → (f : ℕ) (F : Function) (ss : Terms) (G : List Sort) → getElem? P f ≡ some F
     → row-sorted P ss G (take (F .strict) (F .sorts)) → count ss ≤ most-arguments
 few-strict P ok f F ss G h k = omega (arith, row-count P ss G (take (F .strict) (F .sorts)) k, length-take (F .strict) (F .sorts), ok f F h .0)
 
--- An operation at values of its sorts has a value, of its own sort.
+-- An operation at values of its sorts has a value, of its own sort, unless it divides by 0.
 
 truth-below : (b : Bool) → truth b < 2
 truth-below true = omega arith
 truth-below false = omega arith
 
-two-sorted : (s s′ r : Sort) (f : ℕ → ℕ → ℕ) → ((a b : ℕ) → of-sort r (f a b)) → (vs : List ℕ) → of-sorts (s ∷ s′ ∷ []) vs
-    → (v : ℕ) × (of-two f vs ≡ some v) × of-sort r v
+abbrev pub Result : Sort → Applied → Type 0
+Result r x = ((v : ℕ) × (x ≡ gives v) × of-sort r v) ⊎ (x ≡ by-zero)
+
+two-sorted : (s s′ r : Sort) (f : ℕ → ℕ → ℕ) → ((a b : ℕ) → of-sort r (f a b)) → (vs : List ℕ) → of-sorts (s ∷ s′ ∷ []) vs → Result r (of-two f vs)
 unfolding of-sorts of-two
 two-sorted s s′ r f h [] g = absurd g
 two-sorted s s′ r f h (a ∷ []) g = absurd (g .1)
-two-sorted s s′ r f h (a ∷ b ∷ []) g = (f a b, refl, h a b)
+two-sorted s s′ r f h (a ∷ b ∷ []) g = inl (f a b, refl, h a b)
 two-sorted s s′ r f h (a ∷ b ∷ x ∷ vs) g = absurd (g .1 .1)
 
-one-sorted : (s r : Sort) (f : ℕ → ℕ) → ((a : ℕ) → of-sort r (f a)) → (vs : List ℕ) → of-sorts (s ∷ []) vs
-    → (v : ℕ) × (of-one f vs ≡ some v) × of-sort r v
+divided-sorted : (s s′ : Sort) (f : ℕ → ℕ → ℕ) (vs : List ℕ) → of-sorts (s ∷ s′ ∷ []) vs → Result number (of-divided f vs)
+unfolding of-sort of-sorts of-divided unless-zero
+divided-sorted s s′ f [] g = absurd g
+divided-sorted s s′ f (a ∷ []) g = absurd (g .1)
+divided-sorted s s′ f (a ∷ zero ∷ []) g = inr refl
+divided-sorted s s′ f (a ∷ suc b ∷ []) g = inl (f a (suc b), refl, tt)
+divided-sorted s s′ f (a ∷ b ∷ x ∷ vs) g = absurd (g .1 .1)
+
+one-sorted : (s r : Sort) (f : ℕ → ℕ) → ((a : ℕ) → of-sort r (f a)) → (vs : List ℕ) → of-sorts (s ∷ []) vs → Result r (of-one f vs)
 unfolding of-sorts of-one
 one-sorted s r f h [] g = absurd g
-one-sorted s r f h (a ∷ []) g = (f a, refl, h a)
+one-sorted s r f h (a ∷ []) g = inl (f a, refl, h a)
 one-sorted s r f h (a ∷ b ∷ vs) g = absurd (g .1)
 
-none-sorted : (r : Sort) (w : ℕ) → of-sort r w → (vs : List ℕ) → of-sorts [] vs → (v : ℕ) × (of-none w vs ≡ some v) × of-sort r v
+none-sorted : (r : Sort) (w : ℕ) → of-sort r w → (vs : List ℕ) → of-sorts [] vs → Result r (of-none w vs)
 unfolding of-sorts of-none
-none-sorted r w h [] g = (w, refl, h)
+none-sorted r w h [] g = inl (w, refl, h)
 none-sorted r w h (a ∷ vs) g = absurd g
 
-pub apply-sorted : (o : Op) → constant-sorted o → (vs : List ℕ) → of-sorts (domain o) vs → (v : ℕ) × (apply o vs ≡ some v) × of-sort (range o) v
+pub apply-sorted : (o : Op) → constant-sorted o → (vs : List ℕ) → of-sorts (domain o) vs → Result (range o) (apply o vs)
 unfolding apply domain range of-sort constant-sorted equal less both either opposite
 apply-sorted (constant s w) k vs g = none-sorted s w k vs g
 apply-sorted add k vs g = two-sorted number number number _ (λ a b. tt) vs g
 apply-sorted sub k vs g = two-sorted number number number _ (λ a b. tt) vs g
 apply-sorted mul k vs g = two-sorted number number number _ (λ a b. tt) vs g
-apply-sorted div k vs g = two-sorted number number number _ (λ a b. tt) vs g
-apply-sorted rem k vs g = two-sorted number number number _ (λ a b. tt) vs g
+apply-sorted div k vs g = divided-sorted number number _ vs g
+apply-sorted rem k vs g = divided-sorted number number _ vs g
 apply-sorted eq k vs g = two-sorted number number yes-no equal (λ a b. truth-below (eqb a b)) vs g
 apply-sorted lt k vs g = two-sorted number number yes-no less (λ a b. truth-below (ltb a b)) vs g
 apply-sorted and k vs g = two-sorted yes-no yes-no yes-no both (λ a b. truth-below (is-yes a && is-yes b)) vs g
 apply-sorted or k vs g = two-sorted yes-no yes-no yes-no either (λ a b. truth-below (is-yes a || is-yes b)) vs g
 apply-sorted neg k vs g = one-sorted yes-no yes-no opposite (λ a. truth-below (eqb a 0)) vs g
+
+pub result-sorted : (r : Sort) {x : Applied} {v : ℕ} → Result r x → x ≡ gives v → of-sort r v
+result-sorted r {x} {v} (inl w) h = let same : w .0 ≡ v = one (w .1) in subst (of-sort r) same (w .2)
+  where
+    one : {u : ℕ} → x ≡ gives u → u ≡ v
+    one k = cc
+result-sorted r (inr z) h = clash (cc)

@@ -7,10 +7,10 @@ use mathlib.Core.List.{List, [], _∷_}
 use Prim.Native.Nat.{ℕ, zero, suc, _+_}
 use native.Mathlib.Omega.{arith}
 use lib.ListN.{getElem?}
-use Rattle.meaning.specs.Arithmetic.{Op, apply}
+use Rattle.meaning.specs.Arithmetic.{Op, Applied, gives, by-zero, unfit, apply}
 use Rattle.meaning.specs.Terms.{Function, Program}
 use Rattle.meaning.specs.Rewriting.{Closed, val, op-of, cond-of, call-of, Closeds, none-left, and-then, _followed-by_, put-in, vals}
-use Rattle.meaning.specs.Rewriting.{Rewrite, is-value, becomes, no-rule, RowRewrite, are-values, become, no-rules, after-value, in-row, to-value, rewrite-op, branch, rewrite-cond, body-of, rewrite-call, rewrite, rewrite-row, from-there, rewrite-times, Reaches}
+use Rattle.meaning.specs.Rewriting.{Rewrite, is-value, becomes, meets-zero, no-rule, RowRewrite, are-values, become, row-meets-zero, no-rules, after-value, in-row, to-value, rewrite-op, branch, rewrite-cond, body-of, rewrite-call, rewrite, rewrite-row, from-there, rewrite-times, Reaches}
 
 -- Two constructors are never equal.
 pub clash {ℓ} : {A : Type ℓ} → _≡_ {A = ℕ} 0 1 → A
@@ -18,36 +18,41 @@ clash z = absurd (omega arith)
 
 -- What one rewrite came from.
 
-from-value : (x : Option ℕ) {d : Closed} → to-value x ≡ becomes d → (w : ℕ) × (x ≡ some w) × (d ≡ val w)
+from-value : (x : Applied) {d : Closed} → to-value x ≡ becomes d → (w : ℕ) × (x ≡ gives w) × (d ≡ val w)
 unfolding to-value
-from-value none e = clash (cc)
-from-value (some w) e = (w, refl, cc)
+from-value (gives w) e = (w, refl, cc)
+from-value by-zero e = clash (cc)
+from-value unfit e = clash (cc)
 
-no-value : (x : Option ℕ) {v : ℕ} → to-value x ≡ is-value v → ⊥
+no-value : (x : Applied) {v : ℕ} → to-value x ≡ is-value v → ⊥
 unfolding to-value
-no-value none e = clash (cc)
-no-value (some w) e = clash (cc)
+no-value (gives w) e = clash (cc)
+no-value by-zero e = clash (cc)
+no-value unfit e = clash (cc)
 
-op-becomes : (o : Op) (m : RowRewrite) {d : Closed} → rewrite-op o m ≡ becomes d
-    → ((vs : List ℕ) × (w : ℕ) × (m ≡ are-values vs) × (apply o vs ≡ some w) × (d ≡ val w)) ⊎ ((ds : Closeds) × (m ≡ become ds) × (d ≡ op-of o ds))
+pub op-becomes : (o : Op) (m : RowRewrite) {d : Closed} → rewrite-op o m ≡ becomes d
+    → ((vs : List ℕ) × (w : ℕ) × (m ≡ are-values vs) × (apply o vs ≡ gives w) × (d ≡ val w)) ⊎ ((ds : Closeds) × (m ≡ become ds) × (d ≡ op-of o ds))
 unfolding rewrite-op
 op-becomes o (are-values vs) e = let p = from-value (apply o vs) e in inl (vs, p .0, refl, p .1, p .2)
 op-becomes o (become ds) e = inr (ds, refl, cc)
+op-becomes o row-meets-zero e = clash (cc)
 op-becomes o no-rules e = clash (cc)
 
 op-no-value : (o : Op) (m : RowRewrite) {v : ℕ} → rewrite-op o m ≡ is-value v → ⊥
 unfolding rewrite-op
 op-no-value o (are-values vs) e = no-value (apply o vs) e
 op-no-value o (become ds) e = clash (cc)
+op-no-value o row-meets-zero e = clash (cc)
 op-no-value o no-rules e = clash (cc)
 
-cond-becomes : (m : Rewrite) (x y : Closed) {d : Closed} → rewrite-cond m x y ≡ becomes d
+pub cond-becomes : (m : Rewrite) (x y : Closed) {d : Closed} → rewrite-cond m x y ≡ becomes d
     → ((m ≡ is-value 1) × (d ≡ x)) ⊎ (((m ≡ is-value 0) × (d ≡ y)) ⊎ ((c : Closed) × (m ≡ becomes c) × (d ≡ cond-of c x y)))
 unfolding rewrite-cond branch
 cond-becomes (is-value zero) x y e = inr (inl (refl, cc))
 cond-becomes (is-value (suc zero)) x y e = inl (refl, cc)
 cond-becomes (is-value (suc (suc n))) x y e = clash (cc)
 cond-becomes (becomes c) x y e = inr (inr (c, refl, cc))
+cond-becomes meets-zero x y e = clash (cc)
 cond-becomes no-rule x y e = clash (cc)
 
 cond-no-value : (m : Rewrite) (x y : Closed) {v : ℕ} → rewrite-cond m x y ≡ is-value v → ⊥
@@ -56,6 +61,7 @@ cond-no-value (is-value zero) x y e = clash (cc)
 cond-no-value (is-value (suc zero)) x y e = clash (cc)
 cond-no-value (is-value (suc (suc n))) x y e = clash (cc)
 cond-no-value (becomes c) x y e = clash (cc)
+cond-no-value meets-zero x y e = clash (cc)
 cond-no-value no-rule x y e = clash (cc)
 
 body-becomes : (x : Option Function) (cs : Closeds) {d : Closed} → body-of x cs ≡ becomes d
@@ -69,17 +75,19 @@ unfolding body-of
 body-no-value none cs e = clash (cc)
 body-no-value (some F) cs e = clash (cc)
 
-call-becomes : (P : Program) (f : ℕ) (m : RowRewrite) (ws : Closeds) {d : Closed} → rewrite-call P f m ws ≡ becomes d
+pub call-becomes : (P : Program) (f : ℕ) (m : RowRewrite) (ws : Closeds) {d : Closed} → rewrite-call P f m ws ≡ becomes d
     → ((vs : List ℕ) × (F : Function) × (m ≡ are-values vs) × (getElem? P f ≡ some F) × (d ≡ put-in (F .body) (vals vs followed-by ws))) ⊎ ((ss : Closeds) × (m ≡ become ss) × (d ≡ call-of f ss ws))
 unfolding rewrite-call
 call-becomes P f (are-values vs) ws e = let p = body-becomes (getElem? P f) (vals vs followed-by ws) e in inl (vs, p .0, refl, p .1, p .2)
 call-becomes P f (become ss) ws e = inr (ss, refl, cc)
+call-becomes P f row-meets-zero ws e = clash (cc)
 call-becomes P f no-rules ws e = clash (cc)
 
 call-no-value : (P : Program) (f : ℕ) (m : RowRewrite) (ws : Closeds) {v : ℕ} → rewrite-call P f m ws ≡ is-value v → ⊥
 unfolding rewrite-call
 call-no-value P f (are-values vs) ws e = body-no-value (getElem? P f) (vals vs followed-by ws) e
 call-no-value P f (become ss) ws e = clash (cc)
+call-no-value P f row-meets-zero ws e = clash (cc)
 call-no-value P f no-rules ws e = clash (cc)
 
 row-are-values : (m : Rewrite) (cs : Closeds) (ms : RowRewrite) {us : List ℕ} → in-row m cs ms ≡ are-values us
@@ -87,17 +95,21 @@ row-are-values : (m : Rewrite) (cs : Closeds) (ms : RowRewrite) {us : List ℕ} 
 unfolding in-row after-value
 row-are-values (is-value v) cs (are-values vs) e = (v, vs, refl, refl, cc)
 row-are-values (is-value v) cs (become ds) e = clash (cc)
+row-are-values (is-value v) cs row-meets-zero e = clash (cc)
 row-are-values (is-value v) cs no-rules e = clash (cc)
 row-are-values (becomes c) cs ms e = clash (cc)
+row-are-values meets-zero cs ms e = clash (cc)
 row-are-values no-rule cs ms e = clash (cc)
 
-row-become : (m : Rewrite) (cs : Closeds) (ms : RowRewrite) {ds : Closeds} → in-row m cs ms ≡ become ds
+pub row-become : (m : Rewrite) (cs : Closeds) (ms : RowRewrite) {ds : Closeds} → in-row m cs ms ≡ become ds
     → ((v : ℕ) × (bs : Closeds) × (m ≡ is-value v) × (ms ≡ become bs) × (ds ≡ and-then (val v) bs)) ⊎ ((c : Closed) × (m ≡ becomes c) × (ds ≡ and-then c cs))
 unfolding in-row after-value
 row-become (is-value v) cs (are-values vs) e = clash (cc)
 row-become (is-value v) cs (become bs) e = inl (v, bs, refl, refl, cc)
+row-become (is-value v) cs row-meets-zero e = clash (cc)
 row-become (is-value v) cs no-rules e = clash (cc)
 row-become (becomes c) cs ms e = inr (c, refl, cc)
+row-become meets-zero cs ms e = clash (cc)
 row-become no-rule cs ms e = clash (cc)
 
 -- `Reaches`, rewrite by rewrite, and the same for a row of terms.
@@ -115,6 +127,7 @@ there-is-value : (x : Rewrite) (go-on : Closed → Rewrite) {v : ℕ} → from-t
 unfolding from-there
 there-is-value (is-value w) go-on e = clash (cc)
 there-is-value (becomes d) go-on e = (d, refl, e)
+there-is-value meets-zero go-on e = clash (cc)
 there-is-value no-rule go-on e = clash (cc)
 
 pub leads-of : (P : Program) (n : ℕ) {c : Closed} {v : ℕ} → Reaches P c n v → Leads P c n v
@@ -146,7 +159,7 @@ module _ {P : Program} where
 
   -- Putting together.
 
-  after-a-value : {cs : Closeds} {m : ℕ} {vs : List ℕ} (v : ℕ) → RowLeads P cs m vs → RowLeads P (and-then (val v) cs) m (v ∷ vs)
+  pub after-a-value : {cs : Closeds} {m : ℕ} {vs : List ℕ} (v : ℕ) → RowLeads P cs m vs → RowLeads P (and-then (val v) cs) m (v ∷ vs)
   unfolding rewrite in-row after-value
   after-a-value v (row-arrived h) = row-arrived (ap (after-value v) h)
   after-a-value v (row-onward h r) = row-onward (ap (after-value v) h) (after-a-value v r)
@@ -158,7 +171,7 @@ module _ {P : Program} where
   row-leads {cs = cs} (arrived e) (row-onward h r) = row-counted (omega arith) (row-onward (ap₂ (λ a b. in-row a cs b) e h) (after-a-value _ r))
   row-leads {cs = cs} (onward e r) rs = row-counted (omega arith) (row-onward (ap (λ a. in-row a cs (rewrite-row P cs)) e) (row-leads r rs))
 
-  pub op-leads : {o : Op} {cs : Closeds} {n v : ℕ} {vs : List ℕ} → RowLeads P cs n vs → apply o vs ≡ some v → Leads P (op-of o cs) (suc n) v
+  pub op-leads : {o : Op} {cs : Closeds} {n v : ℕ} {vs : List ℕ} → RowLeads P cs n vs → apply o vs ≡ gives v → Leads P (op-of o cs) (suc n) v
   unfolding rewrite rewrite-op to-value
   op-leads {o = o} (row-arrived h) a = onward (ap (rewrite-op o) h ∙ ap to-value a) (arrived refl)
   op-leads {o = o} (row-onward h r) a = onward (ap (rewrite-op o) h) (op-leads r a)
@@ -188,12 +201,12 @@ module _ {P : Program} where
   value-parts (onward e r) k = clash (cc)
 
   pub op-parts : {c : Closed} {n v : ℕ} → Leads P c n v → {o : Op} {cs : Closeds} → c ≡ op-of o cs
-      → (m : ℕ) × (vs : List ℕ) × (n ≡ suc m) × RowLeads P cs m vs × (apply o vs ≡ some v)
+      → (m : ℕ) × (vs : List ℕ) × (n ≡ suc m) × RowLeads P cs m vs × (apply o vs ≡ gives v)
   unfolding rewrite
   op-parts (arrived e) {o} {cs} k = absurd (op-no-value o (rewrite-row P cs) (rw k at e))
   op-parts (onward e r) {o} {cs} k =
       elim (op-becomes o (rewrite-row P cs) (rw k at e)) [
-        | inl p ↦ (let q = value-parts r (p .4) in (0, p .0, omega arith, row-arrived (p .2), p .3 ∙ ap some (q .1)))
+        | inl p ↦ (let q = value-parts r (p .4) in (0, p .0, omega arith, row-arrived (p .2), p .3 ∙ ap gives (q .1)))
         | inr p ↦ (let q = op-parts r (p .2) in (suc (q .0), q .1, ap suc (q .2), row-onward (p .1) (q .3), q .4))
       ]
 

@@ -1,48 +1,60 @@
 -- Fourth: trees to machine. From the entrance of a term the machine comes to what follows it, with the tree's value on the data stack, in exactly the
--- steps and rewrites that the tree costs. Assumes nothing.
+-- rewrites that the tree costs; with a fall it comes to a division by 0. Assumes nothing.
 use mathlib.Core.Path.{_≡_, refl, ap, _∙_}
 use mathlib.Core.Option.{Option, some}
 use mathlib.Core.List.{List, [], _∷_, _++_, map}
 use Prim.Native.Nat.{ℕ, zero, suc, _+_}
 use native.Mathlib.Omega.{arith}
 use lib.ListN.{length, getElem?}
-use Rattle.meaning.specs.Arithmetic.{Op, constant, add, sub, mul, div, rem, eq, lt, and, or, neg, domain, apply, of-none, of-one, of-two}
+use Rattle.meaning.specs.Arithmetic.{Op, constant, add, sub, mul, div, rem, eq, lt, and, or, neg, domain, Applied, gives, by-zero, unfit, apply, of-none, of-one, of-two, of-divided}
 use Rattle.meaning.specs.Terms.{Term, Terms, nil, cons, Program}
 use Rattle.meaning.specs.Code.{size, sizes, entrance, row-entrance, entrances, unsorted, Instruction, EVAL, EXEC, SELECT, CALL}
 use Rattle.meaning.specs.Machine.{value, waiting, Frame, Environment, Place, at, state, taken, look-at, look-up, push-result, execute, choose, enter, call-body, go-back, obey, rewrites}
 use Rattle.theorems.proofs.Splitting.{clash}
-use Rattle.theorems.proofs.Trees.{Argument, given, waits, Chain, bottom, push, all-wait, call-frame, Tree, entry-argument, value-argument, waiting-argument, operation, yes-branch, no-branch, body, Row, done, then, row-length, cost, row-cost, steps}
-use Rattle.theorems.proofs.Courses.{Goes, stay, go, timed, _▸_}
+use Rattle.theorems.proofs.Trees.{Argument, given, waits, Chain, bottom, push, all-wait, call-frame, Tree, entry-argument, value-argument, waiting-argument, operation, yes-branch, no-branch, body, Row, done, then, row-length, cost, row-cost, Fall, in-waiting, in-operand, divides, in-condition, in-yes-branch, in-no-branch, in-strict, in-body, RowFall, at-first, at-later, fall-cost, row-fall-cost}
+use Rattle.theorems.proofs.Courses.{Goes, stay, go, timed, Comes, comes, _▹_, counting, Divides, divides-at, divides-after, divides-counting}
 use Rattle.theorems.proofs.Holding.{holds, holds-strict, holds-waiting, Loaded}
 
--- An operation that has a value was given as many values as it takes.
+-- An operation that has a value, or divides by 0, was given as many values as it takes.
 
-two-given : (f : ℕ → ℕ → ℕ) (vs : List ℕ) {v : ℕ} → of-two f vs ≡ some v → length vs ≡ 2
-unfolding of-two
-two-given f [] h = clash (cc)
-two-given f (a ∷ []) h = clash (cc)
+unfoldable Fit : Applied → Type 0
+Fit (gives v) = Unit {0}
+Fit by-zero = Unit {0}
+Fit unfit = ⊥
+
+two-given : (f : ℕ → ℕ → ℕ) (vs : List ℕ) → Fit (of-two f vs) → length vs ≡ 2
+unfolding of-two Fit
+two-given f [] h = absurd h
+two-given f (a ∷ []) h = absurd h
 two-given f (a ∷ b ∷ []) h = refl
-two-given f (a ∷ b ∷ x ∷ vs) h = clash (cc)
+two-given f (a ∷ b ∷ x ∷ vs) h = absurd h
 
-one-given : (f : ℕ → ℕ) (vs : List ℕ) {v : ℕ} → of-one f vs ≡ some v → length vs ≡ 1
-unfolding of-one
-one-given f [] h = clash (cc)
+divided-given : (f : ℕ → ℕ → ℕ) (vs : List ℕ) → Fit (of-divided f vs) → length vs ≡ 2
+unfolding of-divided Fit
+divided-given f [] h = absurd h
+divided-given f (a ∷ []) h = absurd h
+divided-given f (a ∷ b ∷ []) h = refl
+divided-given f (a ∷ b ∷ x ∷ vs) h = absurd h
+
+one-given : (f : ℕ → ℕ) (vs : List ℕ) → Fit (of-one f vs) → length vs ≡ 1
+unfolding of-one Fit
+one-given f [] h = absurd h
 one-given f (a ∷ []) h = refl
-one-given f (a ∷ b ∷ vs) h = clash (cc)
+one-given f (a ∷ b ∷ vs) h = absurd h
 
-none-given : (w : ℕ) (vs : List ℕ) {v : ℕ} → of-none w vs ≡ some v → length vs ≡ 0
-unfolding of-none
+none-given : (w : ℕ) (vs : List ℕ) → Fit (of-none w vs) → length vs ≡ 0
+unfolding of-none Fit
 none-given w [] h = refl
-none-given w (a ∷ vs) h = clash (cc)
+none-given w (a ∷ vs) h = absurd h
 
-enough-given : (o : Op) (vs : List ℕ) {v : ℕ} → apply o vs ≡ some v → length vs ≡ length (domain o)
+enough-given : (o : Op) (vs : List ℕ) → Fit (apply o vs) → length vs ≡ length (domain o)
 unfolding apply domain
 enough-given (constant s w) vs h = none-given _ vs h
 enough-given add vs h = two-given _ vs h
 enough-given sub vs h = two-given _ vs h
 enough-given mul vs h = two-given _ vs h
-enough-given div vs h = two-given _ vs h
-enough-given rem vs h = two-given _ vs h
+enough-given div vs h = divided-given _ vs h
+enough-given rem vs h = divided-given _ vs h
 enough-given eq vs h = two-given _ vs h
 enough-given lt vs h = two-given _ vs h
 enough-given and vs h = two-given _ vs h
@@ -152,15 +164,26 @@ module _ {P : Program} {C : ℕ → Option Instruction} {bodies : List ℕ} {ret
   unfolding obey go-back rewrites
   return-step = timed (go (L .ret-held) refl stay) (omega arith) (omega arith)
 
+  -- An EXEC finds the values that its operation takes.
+  executed : (o : Op) (vs : List ℕ) {a b : ℕ} (rs : List Place) (ds : List ℕ) (es : List Environment) → C a ≡ some (EXEC (unsorted o) b)
+      → Fit (apply o vs) → obey (some (EXEC (unsorted o) b)) rs (pile vs ds) es ≡ push-result (apply o vs) b rs ds es
+  unfolding obey execute
+  executed o vs {b = b} rs ds es h k =
+      let same : apply (unsorted o) vs ≡ apply o vs = ap (λ f. f vs) (unsorted-apply o) in
+      ap (λ x. execute (unsorted o) x b rs es) (taken-pile (length (domain (unsorted o))) vs ds (enough-given (unsorted o) vs (rw same k))) ∙ ap (λ x. push-result x b rs ds es) same
+
   operation-step : (o : Op) (vs : List ℕ) {a b v : ℕ} {rs : List Place} {ds : List ℕ} {es : List Environment} → C a ≡ some (EXEC (unsorted o) b)
-      → apply o vs ≡ some v
+      → apply o vs ≡ gives v
       → Goes C (state (at a) rs (pile vs ds) es) 1 1 (state (at b) rs (v ∷ ds) es)
-  unfolding obey execute push-result rewrites
+  unfolding push-result rewrites Fit
   operation-step o vs {b = b} {rs = rs} {ds = ds} {es = es} h k =
-      let k′ = ap (λ f. f vs) (unsorted-apply o) ∙ k in
-      timed
-      (go h (ap (λ x. execute (unsorted o) x b rs es) (taken-pile (length (domain (unsorted o))) vs ds (enough-given (unsorted o) vs k′)) ∙ ap (λ x. push-result x b rs ds es) k′) stay)
-      (omega arith) (omega arith)
+      timed (go h (executed o vs rs ds es h (rw k tt) ∙ ap (λ x. push-result x b rs ds es) k) stay) (omega arith) (omega arith)
+
+  zero-step : (o : Op) (vs : List ℕ) {a b : ℕ} (rs : List Place) (ds : List ℕ) (es : List Environment) → C a ≡ some (EXEC (unsorted o) b)
+      → apply o vs ≡ by-zero → Divides C (state (at a) rs (pile vs ds) es) 0
+  unfolding push-result Fit
+  zero-step o vs {b = b} rs ds es h k =
+      divides-at stay (ap (λ x. obey x rs (pile vs ds) es) h ∙ executed o vs rs ds es h (rw k tt) ∙ ap (λ x. push-result x b rs ds es) k)
 
   pub choose-yes : {a x y : ℕ} {rs : List Place} {ds : List ℕ} {es : List Environment} → C a ≡ some (SELECT x y)
       → Goes C (state (at a) rs (1 ∷ ds) es) 1 1 (state (at x) rs ds es)
@@ -181,30 +204,60 @@ module _ {P : Program} {C : ℕ → Option Instruction} {bodies : List ℕ} {ret
 
   -- A tree's whole course.
   mutual
-    unfolding cost steps holds entrance pile
+    unfolding cost holds entrance pile
 
     pub tree-goes : {e : Chain} {t : Term} {v : ℕ} (d : Tree P e t v) (a b : ℕ) {E : Environment} (rs : List Place) (ds : List ℕ) (es : List Environment) → holds C bodies ret t a b → ChainFor C bodies ret e E
-        → Goes C (state (at (entrance t a)) rs ds (E ∷ es)) (steps (cost d)) (cost d .rewrites) (state (at b) rs (v ∷ ds) (E ∷ es))
-    tree-goes (entry-argument {vs = vs} {i = i} h) a b rs ds es k of-bottom = timed (value-step k (entry-slot vs i h)) (omega arith) (omega arith)
-    tree-goes (value-argument {i = i} h) a b rs ds es k (of-push q r) = timed (value-step k (given-slot q i h)) (omega arith) (omega arith)
+        → Comes C (state (at (entrance t a)) rs ds (E ∷ es)) (cost d) (state (at b) rs (v ∷ ds) (E ∷ es))
+    tree-goes (entry-argument {vs = vs} {i = i} h) a b rs ds es k of-bottom = comes (value-step k (entry-slot vs i h))
+    tree-goes (value-argument {i = i} h) a b rs ds es k (of-push q r) = comes (value-step k (given-slot q i h))
     tree-goes (waiting-argument {i = i} h d) a b rs ds es k (of-push {s = s} {E = E} q r) =
         let p = waits-slot q i h in
-        timed (waiting-step k (p .1) ▸ tree-goes d (p .0) ret (at b ∷ rs) ds ((s ∷ E) ∷ es) (p .2) r ▸ return-step) (omega arith) (omega arith)
-    tree-goes (operation {o = o} {vs = vs} l ts h) a b rs ds es k r =
-        timed (row-goes ts (suc a) a rs ds es (k .1) r ▸ operation-step o vs (k .0) h) (omega arith) (omega arith)
+        counting (comes (waiting-step k (p .1)) ▹ tree-goes d (p .0) ret (at b ∷ rs) ds ((s ∷ E) ∷ es) (p .2) r ▹ comes return-step) (omega arith)
+    tree-goes (operation {o = o} {vs = vs} ts h) a b rs ds es k r =
+        counting (row-goes ts (suc a) a rs ds es (k .1) r ▹ comes (operation-step o vs (k .0) h)) (omega arith)
     tree-goes (yes-branch d d′) a b rs ds es k r =
-        timed (tree-goes d (suc a) a rs ds es (k .1) r ▸ choose-yes (k .0) ▸ tree-goes d′ _ b rs ds es (k .2) r) (omega arith) (omega arith)
+        counting (tree-goes d (suc a) a rs ds es (k .1) r ▹ comes (choose-yes (k .0)) ▹ tree-goes d′ _ b rs ds es (k .2) r) (omega arith)
     tree-goes (no-branch d d′) a b rs ds es k r =
-        timed (tree-goes d (suc a) a rs ds es (k .1) r ▸ choose-no (k .0) ▸ tree-goes d′ _ b rs ds es (k .3) r) (omega arith) (omega arith)
-    tree-goes (body {f = f} {F = F} {ss = ss} {ws = ws} {vs = vs} l ts h d) a b {E} rs ds es k r =
+        counting (tree-goes d (suc a) a rs ds es (k .1) r ▹ comes (choose-no (k .0)) ▹ tree-goes d′ _ b rs ds es (k .3) r) (omega arith)
+    tree-goes (body {f = f} {F = F} {ss = ss} {ws = ws} {vs = vs} ts h d) a b {E} rs ds es k r =
         let p = L .body-held f F h in
-        timed
-        (row-goes ts (suc a) a rs ds es (k .1) r ▸ call-step vs (k .0) (row-length ts)
-        ▸ (rw (← p .1) at (tree-goes d (p .0) ret (at b ∷ rs) ds (E ∷ es) (p .2) (of-push (call-frame-for vs ws (suc a + sizes ss) (k .2)) r))) ▸ return-step)
-        (omega arith) (omega arith)
+        counting
+        (row-goes ts (suc a) a rs ds es (k .1) r ▹ comes (call-step vs (k .0) (row-length ts))
+        ▹ (rw (← p .1) at (tree-goes d (p .0) ret (at b ∷ rs) ds (E ∷ es) (p .2) (of-push (call-frame-for vs ws (suc a + sizes ss) (k .2)) r))) ▹ comes return-step)
+        (omega arith)
 
     pub row-goes : {e : Chain} {ts : Terms} {vs : List ℕ} (q : Row P e ts vs) (a home : ℕ) {E : Environment} (rs : List Place) (ds : List ℕ) (es : List Environment) → holds-strict C bodies ret ts a home → ChainFor C bodies ret e E
-        → Goes C (state (at (row-entrance ts a home)) rs ds (E ∷ es)) (steps (row-cost q)) (row-cost q .rewrites) (state (at home) rs (pile vs ds) (E ∷ es))
-    row-goes done a home rs ds es k r = timed stay (omega arith) (omega arith)
-    row-goes (then {t = t} {v = v} d q) a home rs ds es k r =
-        timed (tree-goes d a _ rs ds es (k .0) r ▸ row-goes q (a + size t) home rs (v ∷ ds) es (k .1) r) (omega arith) (omega arith)
+        → Comes C (state (at (row-entrance ts a home)) rs ds (E ∷ es)) (row-cost q) (state (at home) rs (pile vs ds) (E ∷ es))
+    row-goes done a home rs ds es k r = comes stay
+    row-goes (then {t = t} {v = v} d q) a home rs ds es k r = tree-goes d a _ rs ds es (k .0) r ▹ row-goes q (a + size t) home rs (v ∷ ds) es (k .1) r
+
+  -- A fall's course, up to the division by 0.
+  mutual
+    unfolding fall-cost holds entrance pile
+
+    pub fall-goes : {e : Chain} {t : Term} (d : Fall P e t) (a b : ℕ) {E : Environment} (rs : List Place) (ds : List ℕ) (es : List Environment) → holds C bodies ret t a b → ChainFor C bodies ret e E
+        → Divides C (state (at (entrance t a)) rs ds (E ∷ es)) (fall-cost d)
+    fall-goes (in-waiting {i = i} h d) a b rs ds es k (of-push {s = s} {E = E} q r) =
+        let p = waits-slot q i h in
+        divides-counting (divides-after (comes (waiting-step k (p .1))) (fall-goes d (p .0) ret (at b ∷ rs) ds ((s ∷ E) ∷ es) (p .2) r)) (omega arith)
+    fall-goes (in-operand ts) a b rs ds es k r = row-fall-goes ts (suc a) a rs ds es (k .1) r
+    fall-goes (divides {o = o} {vs = vs} ts h) a b rs ds es k r =
+        divides-counting (divides-after (row-goes ts (suc a) a rs ds es (k .1) r) (zero-step o vs rs ds (_ ∷ es) (k .0) h)) (omega arith)
+    fall-goes (in-condition d) a b rs ds es k r = fall-goes d (suc a) a rs ds es (k .1) r
+    fall-goes (in-yes-branch d d′) a b rs ds es k r =
+        divides-counting (divides-after (tree-goes d (suc a) a rs ds es (k .1) r ▹ comes (choose-yes (k .0))) (fall-goes d′ _ b rs ds es (k .2) r)) (omega arith)
+    fall-goes (in-no-branch d d′) a b rs ds es k r =
+        divides-counting (divides-after (tree-goes d (suc a) a rs ds es (k .1) r ▹ comes (choose-no (k .0))) (fall-goes d′ _ b rs ds es (k .3) r)) (omega arith)
+    fall-goes (in-strict ts) a b rs ds es k r = row-fall-goes ts (suc a) a rs ds es (k .1) r
+    fall-goes (in-body {f = f} {F = F} {ss = ss} {ws = ws} {vs = vs} ts h d) a b {E} rs ds es k r =
+        let p = L .body-held f F h in
+        divides-counting
+        (divides-after (row-goes ts (suc a) a rs ds es (k .1) r ▹ comes (call-step vs (k .0) (row-length ts)))
+        (rw (← p .1) at (fall-goes d (p .0) ret (at b ∷ rs) ds (E ∷ es) (p .2) (of-push (call-frame-for vs ws (suc a + sizes ss) (k .2)) r))))
+        (omega arith)
+
+    row-fall-goes : {e : Chain} {ts : Terms} (q : RowFall P e ts) (a home : ℕ) {E : Environment} (rs : List Place) (ds : List ℕ) (es : List Environment) → holds-strict C bodies ret ts a home → ChainFor C bodies ret e E
+        → Divides C (state (at (row-entrance ts a home)) rs ds (E ∷ es)) (row-fall-cost q)
+    row-fall-goes (at-first d) a home rs ds es k r = fall-goes d a _ rs ds es (k .0) r
+    row-fall-goes (at-later {t = t} {v = v} d q) a home rs ds es k r =
+        divides-after (tree-goes d a _ rs ds es (k .0) r) (row-fall-goes q (a + size t) home rs (v ∷ ds) es (k .1) r)

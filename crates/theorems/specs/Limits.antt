@@ -1,4 +1,4 @@
--- Where the machine without limits stops, meets the step limit or meets the height limit. Assumes nothing.
+-- Where the machine without limits stops, divides by 0, meets the step limit or meets the height limit. Assumes nothing.
 use mathlib.Core.Path.{_≡_}
 use mathlib.Core.Logic.{_⊎_}
 use mathlib.Core.Bool.{true, false}
@@ -6,8 +6,8 @@ use mathlib.Core.List.{List}
 use Prim.Native.Nat.{ℕ, suc, _+_, _≤_, _<_}
 use Rattle.meaning.specs.Numbers.{most-height}
 use Rattle.meaning.specs.Terms.{Program}
-use Rattle.meaning.specs.Machine.{State, next}
-use Rattle.theorems.specs.Unlimited.{machine-after, rewrites-after, has-stopped, value-of, data-height, return-height}
+use Rattle.meaning.specs.Machine.{State, next, zero-division}
+use Rattle.theorems.specs.Unlimited.{step, code-of, machine-after, rewrites-after, has-stopped, value-of, data-height, return-height}
 
 -- "a step would make a stack 513 high"
 abbrev pub first-too-high : ℕ
@@ -31,6 +31,19 @@ pub record Stops (P : Program) (args : List ℕ) (v steps rewrites : ℕ) : Type
   pub stopped : has-stopped there ≡ true
   pub its-value : value-of there ≡ v
   pub rewritten : rewrites-after P args steps ≡ rewrites
+
+-- After so many steps and rewrites its next step divides by 0.
+pub record DividesByZero (P : Program) (args : List ℕ) (steps rewrites : ℕ) : Type 0 where
+  pub there : State
+  pub made : machine-after P args steps ≡ next there
+  pub divides : step (code-of P) there ≡ zero-division
+  pub rewritten : rewrites-after P args steps ≡ rewrites
+
+-- It does so before it meets a limit.
+pub record DividesInLimits (P : Program) (args : List ℕ) (limit steps rewrites : ℕ) : Type 0 where
+  pub divides : DividesByZero P args steps rewrites
+  pub in-steps : steps < limit
+  pub low : LowUntil P args steps
 
 -- It stops before it meets a limit.
 pub record StopsInLimits (P : Program) (args : List ℕ) (limit v steps rewrites : ℕ) : Type 0 where

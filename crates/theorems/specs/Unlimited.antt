@@ -8,13 +8,13 @@ use Prim.Native.Nat.{ℕ, zero, suc, _+_}
 use Prim.Native.String.{String}
 use lib.ListN.{length, getElem?}
 use Rattle.meaning.specs.Basics.{if_then_else_}
-use Rattle.meaning.specs.Arithmetic.{apply, of-none, of-one, of-two, sum, difference, product, quotient, remainder, equal, less, both, either, opposite}
+use Rattle.meaning.specs.Arithmetic.{apply, of-none, of-one, of-two, unless-zero, of-divided, sum, difference, product, quotient, remainder, equal, less, both, either, opposite}
 use Rattle.meaning.specs.Terms.{Program}
 use Rattle.meaning.specs.Check.{check-text, found}
 use Rattle.meaning.specs.Code.{Instruction, EVAL, EXEC, SELECT, CALL, RET, entrance, initial, translation, translate-text}
-use Rattle.meaning.specs.Machine.{Slot, value, waiting, Environment, stop, at, State, state, Next, next, no-step, taken, look-at, look-up, push-result, execute, choose, enter, call-body, go-back, obey, rewrites, start, top}
+use Rattle.meaning.specs.Machine.{Slot, value, waiting, Environment, stop, at, State, state, Next, next, no-step, zero-division, taken, look-at, look-up, push-result, execute, choose, enter, call-body, go-back, obey, rewrites, start, top}
 
--- One step; a machine that has stopped makes none.
+-- One step; a machine that has stopped makes none, and one that would divide by 0 makes none either.
 unfoldable pub step : (ℕ → Option Instruction) → State → Next
 step code (state stop rs ds es) = no-step
 step code (state (at a) rs ds es) = obey (code a) rs ds es
@@ -22,6 +22,7 @@ step code (state (at a) rs ds es) = obey (code a) rs ds es
 -- What follows of a step: `otherwise` where there was none.
 unfoldable pub from-next : {A : Type 0} → Next → A → (State → A) → A
 from-next no-step otherwise go-on = otherwise
+from-next zero-division otherwise go-on = otherwise
 from-next (next s) otherwise go-on = go-on s
 
 -- The state n steps after s, where as many can be made.
@@ -155,7 +156,7 @@ waiting-lookups-after P args n = done-in (code-of P) (waiting-lookups-at (code-o
 
 -- After n steps of a text: the value on top once the machine has stopped, then rewrites, calls, waiting lookups and returns.
 unfoldable pub counts-of : String → List ℕ → ℕ → List ℕ
-unfolding translate-text apply of-none of-one of-two sum difference product quotient remainder equal less both either opposite taken look-at look-up push-result execute choose enter call-body go-back obey rewrites start top step from-next state-after done-in instruction-at rewrites-at calls calls-at returns returns-at is-waiting looked-at waiting-lookups environments waiting-lookups-at has-stopped value-of code-of start-of
+unfolding translate-text apply of-none of-one of-two unless-zero of-divided sum difference product quotient remainder equal less both either opposite taken look-at look-up push-result execute choose enter call-body go-back obey rewrites start top step from-next state-after done-in instruction-at rewrites-at calls calls-at returns returns-at is-waiting looked-at waiting-lookups environments waiting-lookups-at has-stopped value-of code-of start-of
 counts-of text args n =
     let P = found (check-text text) in
     from-next (machine-after P args n) [] λ s.

@@ -3,7 +3,9 @@ use mathlib.Core.Path.{_≡_, refl}
 use mathlib.Core.List.{List, [], _∷_}
 use Prim.Native.Nat.{ℕ}
 use Rattle.meaning.specs.Arithmetic.{sum, difference, product, quotient, remainder, equal, less, both, either, opposite}
-use Rattle.word.specs.Operated.{operated}
+use Rattle.word.specs.declared.Worked.{Worked}
+use Rattle.word.specs.declared.Worked.the-variants.{Value, ByZero}
+use Rattle.word.specs.Operated.{divides, operated}
 
 pub examples :
     operated 1 4294967295 1 ∷
@@ -18,8 +20,8 @@ pub examples :
     operated 7 3 4294967290 ∷
     operated 8 1 0 ∷
     operated 9 1 0 ∷
-    operated 10 1 0 ∷
+    Value (opposite 1) ∷
     [] ≡
-    0 ∷ 9 ∷ 65536 ∷ 2147483647 ∷ 0 ∷ 5 ∷ 0 ∷ 1 ∷ 0 ∷ 1 ∷ 0 ∷ 1 ∷ 0 ∷ []
-unfolding operated sum difference product quotient remainder equal less both either opposite
+    Value 0 ∷ Value 9 ∷ Value 65536 ∷ Value 2147483647 ∷ ByZero ∷ Value 5 ∷ ByZero ∷ Value 1 ∷ Value 0 ∷ Value 1 ∷ Value 0 ∷ Value 1 ∷ Value 0 ∷ []
+unfolding operated divides sum difference product quotient remainder equal less both either opposite
 examples = refl

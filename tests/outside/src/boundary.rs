@@ -42,9 +42,11 @@ pub const ROOM: u32 = 8;
 pub const FUEL: u32 = 9;
 pub const DEEP: u32 = 10;
 pub const STUCK: u32 = 11;
+pub const ZERO: u32 = 12;
 
-pub const NUMBER_NAMES: [&str; 12] =
-    ["HALT", "LONG", "LINE", "COUNT", "NAME", "TERM", "NEST", "ARGS", "ROOM", "FUEL", "DEEP", "STUCK"];
+pub const NUMBERS: usize = 13;
+pub const NUMBER_NAMES: [&str; NUMBERS] =
+    ["HALT", "LONG", "LINE", "COUNT", "NAME", "TERM", "NEST", "ARGS", "ROOM", "FUEL", "DEEP", "STUCK", "ZERO"];
 
 /// Words of one instruction, work words of a run, and the most code words that an accepted text needs.
 pub const INSTRUCTION_WORDS: usize = 12;
@@ -56,7 +58,7 @@ pub type Check = fn(&[u8], &mut [Head]) -> Checked;
 pub type Translate = fn(&[u8], &mut [u32]) -> Checked;
 pub type Run = fn(&[u8], &[u32], u32, &mut [u32], &mut [u32]) -> Answer;
 
-/// Anything that claims to be document 01's three functions.
+/// Anything that claims to be the documents' three functions.
 #[derive(Clone, Copy)]
 pub struct Engine {
     pub check: Check,
@@ -67,7 +69,14 @@ pub struct Engine {
 /// The engine in the archive.
 pub const LINKED: Engine = Engine { check: engine::check, translate: engine::translate, run: engine::run };
 
+/// No archive is linked: the plain reading stands in for it, so that the judge itself can be tried.
+#[cfg(feature = "alone")]
+pub mod engine {
+    pub use crate::spec::{check, run, translate};
+}
+
 /// The archive's functions, each slice lent as a pointer and a length.
+#[cfg(not(feature = "alone"))]
 pub mod engine {
     use super::{Answer, Checked, Head};
 

@@ -1,4 +1,4 @@
-//! An engine held against document 01 on one input: every answer field, every head, every code word, every work word.
+//! An engine held against the documents on one input: every answer field, every head, every code word, every work word.
 
 use crate::boundary::{Answer, Checked, Engine, Head};
 use crate::dice::Dice;
@@ -90,7 +90,7 @@ fn lent<T>(guarded: &mut [T]) -> &mut [T] {
 
 fn differ<T: PartialEq + Debug>(differences: &mut Vec<String>, what: &str, expected: &T, found: &T) {
     if expected != found {
-        differences.push(format!("{what}: document 01 gives {expected:?}, the engine {found:?}"));
+        differences.push(format!("{what}: the documents give {expected:?}, the engine {found:?}"));
     }
 }
 
@@ -99,5 +99,5 @@ fn differ_in_slice<T: PartialEq + Debug>(differences: &mut Vec<String>, what: &s
     let place = index as isize - GUARD as isize;
     let count = (0..expected.len()).filter(|index| expected[*index] != found[*index]).count();
     let (expected, found) = (&expected[index], &found[index]);
-    differences.push(format!("{what}: first of {count} at index {place}: document 01 gives {expected:?}, the engine {found:?}"));
+    differences.push(format!("{what}: first of {count} at index {place}: the documents give {expected:?}, the engine {found:?}"));
 }

@@ -1,4 +1,4 @@
-//! examples/: each rule on its first line prints its line, by document 01, by the engine and, where one is named, by the program.
+//! examples/: each rule on its first line prints its line, by the plain reading, by the engine and, where one is named, by the program.
 //! It stands among the cases of crates/figures, which the gate runs, and on the page beside it; two are in README.md, too.
 
 use crate::boundary::engine;
@@ -69,7 +69,7 @@ fn lines(example: &Example, program: Option<&str>, gate: &BTreeMap<String, Strin
     let Example { name, args, rule, out } = example;
     let input = [args.as_bytes(), rule.as_bytes()].concat();
     let mut lines = vec![
-        ("document 01 prints", line(&input, |input| run(spec::run, input))),
+        ("the plain reading prints", line(&input, |input| run(spec::run, input))),
         ("the engine prints", line(&input, |input| run(engine::run, input))),
         ("crates/figures has", gate.get(&escaped(&input)).cloned().unwrap_or_default()),
     ];

@@ -1,6 +1,7 @@
 //! Families of texts, each with its own kind of trouble.
 
 use crate::dice::Dice;
+use crate::dividing;
 use crate::spec::text::{self, Sort};
 use crate::spoil;
 use crate::writer::{argument, names, number, openings, symbols, term, text_of, value, write, Calls, Line};
@@ -14,13 +15,15 @@ pub struct Draft {
 type Family = (&'static str, usize, fn(&mut Dice) -> Draft);
 
 /// Name, weight and maker of each family.
-const FAMILIES: [Family; 12] = [
+const FAMILIES: [Family; 14] = [
     ("loose", 22, loose),
     ("falling", 22, falling),
     ("nested", 5, nested),
     ("calling", 4, calling),
     ("handing", 3, handing),
     ("looping", 4, looping),
+    ("dividing", 8, dividing::looked_at),
+    ("passed over", 1, dividing::passed_over),
     ("many functions", 2, many_functions),
     ("many symbols", 2, many_symbols),
     ("long", 2, long),
@@ -369,7 +372,7 @@ fn not_chain(dice: &mut Dice) -> Vec<u8> {
 }
 
 fn spoilt(dice: &mut Dice) -> Draft {
-    let makers: [fn(&mut Dice) -> Draft; 5] = [loose, falling, nested, looping, edges];
+    let makers: [fn(&mut Dice) -> Draft; 6] = [loose, falling, nested, looping, edges, dividing::looked_at];
     let mut draft = if dice.once_in(30) { many_symbols(dice) } else { dice.pick(&makers)(dice) };
     for _ in 0..dice.pick(&[1, 1, 1, 2, 3]) {
         spoil::text(dice, &mut draft.text);

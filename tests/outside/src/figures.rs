@@ -1,4 +1,5 @@
-//! The figures of document 01 and example 73 of document 000, held against the engine and against the plain reading of the document.
+//! The figures of document 01, as request b leaves them, and example 73 of document 000, held against the engine and against
+//! the plain reading of the documents.
 
 use crate::boundary::{engine, Answer, Checked, Head, MOST_CODE_WORDS, MOST_HEADS, WORK_WORDS};
 use crate::spec;
@@ -14,7 +15,7 @@ const PAIR: &str = "USE 1 nn n GAP a LOOP b;GAP 1 nn n cond < a 9 a b;LOOP 0 n n
 /// Text, arguments, limit; number, value, steps, rewrites.
 type RunFigure = (&'static str, &'static [u32], u32, [u32; 4]);
 
-const RUNS: [RunFigure; 11] = [
+const RUNS: [RunFigure; 13] = [
     (ID1, &[7], 100, [0, 7, 5, 1]),
     (ID0, &[7], 100, [0, 7, 6, 1]),
     (DIF2, &[3, 4294967290], 100, [0, 9, 8, 2]),
@@ -22,7 +23,9 @@ const RUNS: [RunFigure; 11] = [
     (PAIR, &[5, 7], 12, [0, 5, 12, 5]),
     (PAIR, &[5, 7], 11, [9, 0, 11, 5]),
     (PAIR, &[5, 7], 0, [9, 0, 0, 0]),
-    (DIV, &[7, 0], 100, [0, 0, 8, 2]),
+    (DIV, &[7, 0], 100, [12, 0, 5, 1]),
+    (DIV, &[7, 0], 5, [9, 0, 5, 1]),
+    (DIV, &[7, 2], 100, [0, 3, 8, 2]),
     (PAIR, &[9, 7], 518, [10, 0, 517, 513]),
     (PAIR, &[9, 7], 517, [9, 0, 517, 513]),
     // The computation that document 000 shows after example 73.
@@ -42,7 +45,7 @@ const CHECKS: [(&str, [u32; 3]); 9] = [
     ("X 0 n n 4294967295;", [0, 0, 0]),
 ];
 
-/// What does not come out as the document says; and how many figures were tried.
+/// What does not come out as the documents say; and how many figures were tried.
 pub fn hold() -> (usize, Vec<String>) {
     let mut failures = Vec::new();
     let mut tried = 0;
@@ -50,7 +53,7 @@ pub fn hold() -> (usize, Vec<String>) {
         tried += 1;
         let answers = run_both(&text_of(text), args, limit);
         if answers.iter().any(|answer| [answer.number, answer.value, answer.steps, answer.rewrites] != figure) {
-            failures.push(format!("{text} {args:?} {limit}: expected {figure:?}, document 01 and engine give {answers:?}"));
+            failures.push(format!("{text} {args:?} {limit}: expected {figure:?}, documents and engine give {answers:?}"));
         }
     }
     let not_chains =
@@ -60,7 +63,7 @@ pub fn hold() -> (usize, Vec<String>) {
         tried += 1;
         let answers = check_both(&text_of(&text));
         if answers.iter().any(|answer| [answer.number, answer.line, answer.field] != figure) {
-            failures.push(format!("{text}: expected {figure:?}, document 01 and engine give {answers:?}"));
+            failures.push(format!("{text}: expected {figure:?}, documents and engine give {answers:?}"));
         }
     }
     tried += 2;
@@ -85,7 +88,7 @@ fn id_code() -> Option<String> {
     engine::translate(&text_of(ID1), &mut codes[1]);
     let right =
         |code: &[u32; 48]| code.chunks(12).zip(expected).all(|(words, leading)| words[..4] == leading && words[4..] == [0; 8]);
-    (!codes.iter().all(right)).then(|| format!("{ID1}: document 01 and engine translate to {codes:?}"))
+    (!codes.iter().all(right)).then(|| format!("{ID1}: documents and engine translate to {codes:?}"))
 }
 
 /// Example 73 of document 000: multiplication, and its machine program by tree addresses, in prefix order.
@@ -123,7 +126,7 @@ fn multiplication_code() -> Option<String> {
     let mut codes = [vec![0; expected.len()], vec![0; expected.len()]];
     spec::translate(&text_of(MULTIPLICATION), &mut codes[0]);
     engine::translate(&text_of(MULTIPLICATION), &mut codes[1]);
-    (!codes.iter().all(|code| *code == expected)).then(|| format!("example 73: document 01 and engine translate to {codes:?}"))
+    (!codes.iter().all(|code| *code == expected)).then(|| format!("example 73: documents and engine translate to {codes:?}"))
 }
 
 /// The twelve words of a command as the paper writes it; a tree address is its place in the list.

@@ -89,7 +89,7 @@ fn limits(dice: &mut Dice, family: &str, functions: Option<&[Function]>, args: &
     };
     let granted = match family {
         _ if dice.once_in(60) => 300_000,
-        "calling" | "handing" => 20_000,
+        "calling" | "handing" | "dividing" => 20_000,
         _ => 2_500,
     };
     let probe = machine::run(&code::translate(functions), args, granted);

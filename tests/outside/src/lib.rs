@@ -1,9 +1,10 @@
-//! The outside judge of the engine: document 01 once more, in the plainest way, and the engine held against it.
+//! The outside judge of the engine: the documents once more, in the plainest way, and the engine held against them.
 
 pub mod boundary;
 pub mod compare;
 pub mod demands;
 pub mod dice;
+pub mod dividing;
 pub mod edge;
 pub mod examples;
 pub mod families;

@@ -1,12 +1,15 @@
-//! What a newcomer reads: the links of the pages lead somewhere, and the C lines of README.md are those that are compiled.
+//! What a newcomer reads: the links of the pages lead somewhere, the C lines of README.md are those that are compiled, and the
+//! header names the documents' numbers.
 
+use crate::boundary::NUMBER_NAMES;
 use std::fs;
 use std::path::Path;
 
 /// What does not stand as the pages say; and how many things were tried.
 pub fn hold() -> (usize, Vec<String>) {
     let mut failures = Vec::new();
-    let mut tried = 1;
+    let mut tried = 2;
+    failures.extend(header_numbers());
     let example = page("tests/outside/example.c");
     if !page("README.md").contains(&format!("```c\n{example}```\n")) {
         failures.push("README.md does not show the lines of tests/outside/example.c".to_string());
@@ -21,6 +24,21 @@ pub fn hold() -> (usize, Vec<String>) {
         }
     }
     (tried, failures)
+}
+
+/// The header names each number of the documents, and no other.
+fn header_numbers() -> Option<String> {
+    let header = page("include/nespralha.h");
+    let (_, rest) = header.split_once("enum nespralha_number {").expect("the header's numbers");
+    let (list, _) = rest.split_once('}').expect("the end of the header's numbers");
+    let entry = |line: &str| line.split("/*").next().map(|entry| entry.trim().trim_end_matches(',').to_string());
+    let found: Vec<String> = list.lines().filter_map(entry).filter(|entry| !entry.is_empty()).collect();
+    let named = NUMBER_NAMES.iter().enumerate();
+    let expected: Vec<String> = named.map(|(number, name)| format!("NESPRALHA_{name} = {number}")).collect();
+    let differ = |(found, expected): (&String, &String)| format!("include/nespralha.h has {found}, not {expected}");
+    let first = found.iter().zip(&expected).find(|(found, expected)| found != expected).map(differ);
+    let lengths = format!("include/nespralha.h has {} numbers, not {}", found.len(), expected.len());
+    first.or((found.len() != expected.len()).then_some(lengths))
 }
 
 /// A file of the repository.

@@ -1,4 +1,4 @@
-//! data/base.txt: two lines a case, what the program reads and what it prints. And the program itself, where one is named.
+//! data/run.txt: two lines a case, what the program reads and what it prints. And the program itself, where one is named.
 
 use crate::boundary::{engine, Answer, Run, MOST_CODE_WORDS, WORK_WORDS};
 use crate::generate;
@@ -7,35 +7,35 @@ use crate::spec::program::{line, Input};
 use std::io::Write;
 use std::process::{Command, Stdio};
 
-const BASE: &str = include_str!("../data/base.txt");
+const LINES: &str = include_str!("../data/run.txt");
 
 /// What does not come out as the file says; and how many lines were tried.
 pub fn hold() -> (usize, Vec<String>) {
     let mut failures = Vec::new();
     let mut tried = 0;
-    let lines: Vec<&str> = BASE.lines().collect();
+    let lines: Vec<&str> = LINES.lines().collect();
     for (index, pair) in lines.chunks(2).enumerate() {
         let (input, expected) = (plain(pair[0]), plain(pair[1]));
         let by_document = line(&input, |input| run(spec::run, input));
         let by_engine = line(&input, |input| run(engine::run, input));
-        for (who, printed) in [("document 01", by_document), ("the engine", by_engine)] {
+        for (who, printed) in [("the plain reading", by_document), ("the engine", by_engine)] {
             tried += 1;
             if printed.as_bytes() != expected {
-                failures.push(format!("base.txt line {}: expected {}, {who} prints {printed:?}", 2 * index + 1, pair[1]));
+                failures.push(format!("run.txt line {}: expected {}, {who} prints {printed:?}", 2 * index + 1, pair[1]));
             }
         }
     }
     (tried, failures)
 }
 
-/// The program at a path, on the inputs of base.txt and on 1,000 generated ones.
+/// The program at a path, on the inputs of run.txt and on 1,000 generated ones.
 pub fn hold_program(path: &str, seed: u64) -> (usize, Vec<String>) {
-    let base = BASE.lines().step_by(2).map(plain);
-    let inputs: Vec<Vec<u8>> = base.chain((0..1000).map(|number| generate::input(seed, number))).collect();
+    let vectors = LINES.lines().step_by(2).map(plain);
+    let inputs: Vec<Vec<u8>> = vectors.chain((0..1000).map(|number| generate::input(seed, number))).collect();
     let wrong = |input: &Vec<u8>| {
         let (expected, printed) = (line(input, |input| run(spec::run, input)), printed(path, input));
         (printed != expected.as_bytes())
-            .then(|| format!("input {}: document 01 prints {expected:?}, the program {:?}", escaped(input), escaped(&printed)))
+            .then(|| format!("input {}: the documents print {expected:?}, the program {:?}", escaped(input), escaped(&printed)))
     };
     (inputs.len(), inputs.iter().filter_map(wrong).collect())
 }

@@ -155,8 +155,10 @@ impl Writer<'_> {
     fn operation(&mut self, sort: Sort, budget: usize, levels: usize) {
         use Sort::*;
         if sort == Number {
-            let symbol = self.dice.pick(&["+", "-", "*", "/", "%"]);
-            return self.inner(symbol, &[Number, Number], budget, levels);
+            return match self.dice.pick(&["+", "-", "*", "/", "%"]) {
+                symbol @ ("/" | "%") if self.dice.below(5) > 0 => self.safe_division(symbol, budget, levels),
+                symbol => self.inner(symbol, &[Number, Number], budget, levels),
+            };
         }
         match self.dice.below(5) {
             0 => self.inner("!", &[YesNo], budget, levels),
@@ -165,6 +167,14 @@ impl Writer<'_> {
             3 => self.inner("&", &[YesNo, YesNo], budget, levels),
             _ => self.inner("|", &[YesNo, YesNo], budget, levels),
         }
+    }
+
+    /// A division that does not end the run: most are to be of this kind.
+    fn safe_division(&mut self, symbol: &str, budget: usize, levels: usize) {
+        self.body.push(symbol.to_string());
+        self.term(Sort::Number, budget - 1, levels - 1);
+        let divisor = number(self.dice).max(1);
+        self.body.push(divisor.to_string());
     }
 
     fn inner(&mut self, symbol: &str, sorts: &[Sort], budget: usize, levels: usize) {

@@ -1,20 +1,19 @@
 -- `word::divided` meets its contract. Assumes nothing.
-use borrow.Author.Tests.{eq-eqb, ne-eqb}
 use borrow.Author.Needs.{needs}
 use Rattle.meaning.specs.Arithmetic.{quotient}
+use Rattle.word.proofs.Laws.{divides-none, divides-some}
 use Rattle.word.proofs.divided.Statement.{statement}
 use Rattle.word.proofs.divided.Tie as tie
 
-div-result : tie.Need-div-result
-div-result c = search needs
+div-t5 : tie.Need-div-t5
+div-t5 c = search needs
 
 returns : tie.Need-returns
-unfolding quotient
-returns c = simp (eq-eqb _ _ (c .if1 .taken))
+returns c = divides-none quotient _ _ (c .if1 .taken)
 
 returns-2 : tie.Need-returns-2
 unfolding quotient
-returns-2 c = simp (ne-eqb _ _ (c .if1 .left))
+returns-2 c = divides-some quotient _ _ (c .if1 .left)
 
 pub divided-spec : {M : Type 1} → statement M
-divided-spec = tie.close (tie.spec div-result returns returns-2)
+divided-spec = tie.close (tie.spec div-t5 returns returns-2)

@@ -1,7 +1,9 @@
 -- `word::operate` meets its contract. Assumes nothing.
+use mathlib.Core.Path.{ap}
 use borrow.Author.Tests.{ne-eqb}
 use borrow.Author.Needs.{needs}
 use Rattle.meaning.specs.Arithmetic.{difference}
+use Rattle.word.specs.declared.Worked.the-variants.{Value}
 use Rattle.word.specs.Operated.{operated}
 use Rattle.word.proofs.operate.Statement.{statement}
 use Rattle.word.proofs.operate.Tie as tie
@@ -33,20 +35,17 @@ and-requires c κs = search needs
 or-requires : tie.Need-or-requires
 or-requires c κs = search needs
 
-not-requires : tie.Need-not-requires
-not-requires c κs = search needs
-
 returns : tie.Need-returns
 unfolding operated
-returns c = rw (c .before .match .keys1) (c .plus .ensures)
+returns c = rw (c .before .match .keys1) (ap Value (c .plus .ensures))
 
 returns-2 : tie.Need-returns-2
 unfolding operated difference
-returns-2 c = rw (c .before .match .keys2) (c .minus .ensures)
+returns-2 c = rw (c .before .match .keys2) (ap Value (c .minus .ensures))
 
 returns-3 : tie.Need-returns-3
 unfolding operated
-returns-3 c = rw (c .before .match .keys3) (c .times .ensures)
+returns-3 c = rw (c .before .match .keys3) (ap Value (c .times .ensures))
 
 returns-4 : tie.Need-returns-4
 unfolding operated
@@ -58,27 +57,23 @@ returns-5 c = rw (c .before .match .keys5) (c .left-over .ensures)
 
 returns-6 : tie.Need-returns-6
 unfolding operated
-returns-6 c = rw (c .before .match .keys6) (c .same .ensures)
+returns-6 c = rw (c .before .match .keys6) (ap Value (c .same .ensures))
 
 returns-7 : tie.Need-returns-7
 unfolding operated
-returns-7 c = rw (c .before .match .keys7) (c .below .ensures)
+returns-7 c = rw (c .before .match .keys7) (ap Value (c .below .ensures))
 
 returns-8 : tie.Need-returns-8
 unfolding operated
-returns-8 c = rw (c .before .match .keys8) (c .and .ensures)
+returns-8 c = rw (c .before .match .keys8) (ap Value (c .and .ensures))
 
 returns-9 : tie.Need-returns-9
 unfolding operated
-returns-9 c = rw (c .before .match .keys9) (c .or .ensures)
+returns-9 c = rw (c .before .match .keys9) (ap Value (c .or .ensures))
 
 returns-10 : tie.Need-returns-10
 unfolding operated
-returns-10 c = rw (c .before .match .keys10) (c .not .ensures)
-
-returns-11 : tie.Need-returns-11
-unfolding operated
-returns-11 c = simp (ne-eqb _ _ (c .match .rest .0 .0 .0 .0 .0 .0 .0 .0 .0 .1), ne-eqb _ _ (c .match .rest .0 .0 .0 .0 .0 .0 .0 .0 .1), ne-eqb _ _ (c .match .rest .0 .0 .0 .0 .0 .0 .0 .1), ne-eqb _ _ (c .match .rest .0 .0 .0 .0 .0 .0 .1), ne-eqb _ _ (c .match .rest .0 .0 .0 .0 .0 .1), ne-eqb _ _ (c .match .rest .0 .0 .0 .0 .1), ne-eqb _ _ (c .match .rest .0 .0 .0 .1), ne-eqb _ _ (c .match .rest .0 .0 .1), ne-eqb _ _ (c .match .rest .0 .1), ne-eqb _ _ (c .match .rest .1))
+returns-10 c = simp (ne-eqb _ _ (c .match .rest .0 .0 .0 .0 .0 .0 .0 .0 .1), ne-eqb _ _ (c .match .rest .0 .0 .0 .0 .0 .0 .0 .1), ne-eqb _ _ (c .match .rest .0 .0 .0 .0 .0 .0 .1), ne-eqb _ _ (c .match .rest .0 .0 .0 .0 .0 .1), ne-eqb _ _ (c .match .rest .0 .0 .0 .0 .1), ne-eqb _ _ (c .match .rest .0 .0 .0 .1), ne-eqb _ _ (c .match .rest .0 .0 .1), ne-eqb _ _ (c .match .rest .0 .1), ne-eqb _ _ (c .match .rest .1))
 
 pub operate-spec : {M : Type 1} → statement M
 operate-spec =
@@ -93,7 +88,6 @@ operate-spec =
     below-requires
     and-requires
     or-requires
-    not-requires
     returns
     returns-2
     returns-3
@@ -103,5 +97,4 @@ operate-spec =
     returns-7
     returns-8
     returns-9
-    returns-10
-    returns-11)
+    returns-10)

@@ -1,5 +1,5 @@
 //! The yardstick of the benchmark: a reader, a translator and a machine written for speed alone,
-//! over the same twelve words an instruction. Held against document 01 before it is timed.
+//! over the same twelve words an instruction. Held against the documents before it is timed.
 
 use outside::boundary::*;
 use std::mem::MaybeUninit;
@@ -645,6 +645,14 @@ unsafe fn execute(code: *const u32, start: usize, args: &[u32], limit: u32, work
             at = instruction(*at.add(1));
         }};
     }
+    macro_rules! divide {
+        ($x:ident, $y:ident, $result:expr) => {{
+            if top == 0 {
+                break ZERO;
+            }
+            operate!($x, $y, $result);
+        }};
+    }
     let number = loop {
         if left == 0 {
             break FUEL;
@@ -718,8 +726,8 @@ unsafe fn execute(code: *const u32, start: usize, args: &[u32], limit: u32, work
             9 => operate!(x, y, x.wrapping_add(y)),
             10 => operate!(x, y, x.wrapping_sub(y)),
             11 => operate!(x, y, x.wrapping_mul(y)),
-            12 => operate!(x, y, x.checked_div(y).unwrap_or(0)),
-            13 => operate!(x, y, x.checked_rem(y).unwrap_or(0)),
+            12 => divide!(x, y, x / y),
+            13 => divide!(x, y, x % y),
             14 => operate!(x, y, (x == y) as u32),
             15 => operate!(x, y, (x < y) as u32),
             16 => operate!(x, y, x & y),

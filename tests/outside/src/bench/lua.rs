@@ -51,9 +51,7 @@ print(value, measure(function() return load(source)()({values}) end), measure(fu
 /// A chunk that returns a function of the entry's argument values.
 fn source(functions: &[Function]) -> String {
     let names: Vec<String> = (0..functions.len()).map(name).collect();
-    let mut source = "local function div(x, y) if y == 0 then return 0 end return x // y end\n".to_string();
-    source += "local function rem(x, y) if y == 0 then return 0 end return x % y end\n";
-    source += "local function both(x, y) return x and y end\nlocal function either(x, y) return x or y end\n";
+    let mut source = "local function both(x, y) return x and y end\nlocal function either(x, y) return x or y end\n".to_string();
     source += &format!("local {}\n", names.join(", "));
     for (index, function) in functions.iter().enumerate() {
         let parameters: Vec<String> = (0..function.sorts.len()).map(parameter).collect();
@@ -130,8 +128,9 @@ fn operate(operation: Operation, values: &[String]) -> String {
         Add => format!("(({x} + {y}) & 0xffffffff)"),
         Subtract => format!("(({x} - {y}) & 0xffffffff)"),
         Multiply => format!("(({x} * {y}) & 0xffffffff)"),
-        Divide => format!("div({x}, {y})"),
-        Remainder => format!("rem({x}, {y})"),
+        // A divisor of 0 is an error there, too.
+        Divide => format!("({x} // {y})"),
+        Remainder => format!("({x} % {y})"),
         Equal => format!("({x} == {y})"),
         Less => format!("({x} < {y})"),
         And => format!("both({x}, {y})"),

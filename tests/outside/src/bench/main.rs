@@ -224,7 +224,7 @@ fn print_row(row: &Row) {
     println!("{:<28} {:>6} | {} | {} | {ratios} | {lua}", row.name, answer.steps, side(&engine), side(&rust));
 }
 
-/// The answer that document 01 and both machines give.
+/// The answer that the documents and both machines give.
 fn agreed(row: &Row) -> Answer {
     let mut lent = Lent::new();
     let answer = spec::run(&row.text, &row.args, u32::MAX, &mut lent.code, &mut lent.work);

@@ -1,6 +1,6 @@
 //! The judge: figures, vectors, examples, pages, the stack and generated cases, then 'N passed, M failed'.
 
-use outside::boundary::{Answer, Checked, DEEP, HALT, LINKED, NUMBER_NAMES};
+use outside::boundary::{Answer, Checked, DEEP, HALT, LINKED, NUMBERS, NUMBER_NAMES};
 use outside::compare::compare;
 use outside::demands::{hold, Verdict};
 use outside::generate::{self, Case};
@@ -35,12 +35,16 @@ struct Tally {
     failed: u64,
     /// Of the cases that failed, the one with the shortest text: what to look at first.
     shortest: Option<(usize, String)>,
-    check_numbers: [u64; 12],
-    run_numbers: [u64; 12],
+    check_numbers: [u64; NUMBERS],
+    run_numbers: [u64; NUMBERS],
     runs: u64,
     families: BTreeMap<&'static str, u64>,
     halted_by_rewriting: u64,
     deep_by_rewriting: u64,
+    stopped_by_rewriting: u64,
+    deep_before_zero: u64,
+    /// Cases that halt past a division by 0 that nobody looks at.
+    halted_past_zero: u64,
     too_large: u64,
     unfinished: u64,
     /// Cases that halt, and that rewriting could not follow so far.
@@ -64,7 +68,7 @@ fn main() {
     let program = std::env::var("NESPRALHA_PROGRAM").ok();
     let mut held = vec![
         ("figures", figures::hold()),
-        ("lines of base.txt", vectors::hold()),
+        ("lines of run.txt", vectors::hold()),
         ("looks at examples/", examples::hold(program.as_deref())),
         ("looks at the pages", pages::hold()),
         ("texts in a small stack", stack::hold()),
@@ -204,7 +208,7 @@ fn judge(case: Case) -> Judged {
     let mut differences = comparison.differences;
     let verdict = hold(&case, &comparison.answers);
     if let Verdict::Broken(how) = &verdict {
-        differences.push(format!("demands 2 and 3: {how}"));
+        differences.push(format!("rewriting and the bounds: {how}"));
     }
     Judged { case, checked: comparison.checked, answers: comparison.answers, verdict, differences }
 }
@@ -228,7 +232,7 @@ fn show(seed: u64, number: u64) -> i32 {
         let case = generate::case(seed, number);
         println!("seed {seed}, case {number}\n{}", describe(&case));
         let judged = judge(case);
-        println!("  document 01 checks it to {:?}", judged.checked);
+        println!("  the documents check it to {:?}", judged.checked);
         for (limit, answer) in judged.case.limits.iter().zip(&judged.answers) {
             println!("  and at limit {limit} runs it to {answer:?}");
         }
@@ -269,11 +273,14 @@ impl Tally {
         match judged.verdict {
             Verdict::Halted => self.halted_by_rewriting += 1,
             Verdict::WentDeep => self.deep_by_rewriting += 1,
+            Verdict::Stopped => self.stopped_by_rewriting += 1,
+            Verdict::WentDeepBeforeZero => self.deep_before_zero += 1,
             Verdict::TooLarge => self.too_large += 1,
             Verdict::Unfinished => self.unfinished += 1,
             Verdict::NotTried | Verdict::Broken(_) => {}
         }
         let halts = judged.answers.iter().any(|answer| answer.number == HALT);
+        self.halted_past_zero += (halts && judged.case.family == "passed over") as u64;
         self.halted_without_rewriting += (halts && matches!(judged.verdict, Verdict::TooLarge | Verdict::Unfinished)) as u64;
         self.count_heights(&judged.case, &judged.answers);
         if judged.differences.is_empty() {
@@ -313,7 +320,7 @@ impl Tally {
             self.keep_shortest(length, failure);
         }
         self.runs += part.runs;
-        for number in 0..12 {
+        for number in 0..NUMBERS {
             self.check_numbers[number] += part.check_numbers[number];
             self.run_numbers[number] += part.run_numbers[number];
         }
@@ -322,6 +329,9 @@ impl Tally {
         }
         self.halted_by_rewriting += part.halted_by_rewriting;
         self.deep_by_rewriting += part.deep_by_rewriting;
+        self.stopped_by_rewriting += part.stopped_by_rewriting;
+        self.deep_before_zero += part.deep_before_zero;
+        self.halted_past_zero += part.halted_past_zero;
         self.too_large += part.too_large;
         self.unfinished += part.unfinished;
         self.halted_without_rewriting += part.halted_without_rewriting;
@@ -333,11 +343,15 @@ impl Tally {
 
     /// What a long comparison has to have met, and how often it did.
     fn to_be_met(&self) -> [(&'static str, Vec<(&'static str, u64)>); 3] {
-        let named =
-            |numbers: &[u64; 12], met: &[u32]| met.iter().map(|n| (NUMBER_NAMES[*n as usize], numbers[*n as usize])).collect();
+        let named = |numbers: &[u64; NUMBERS], met: &[u32]| {
+            met.iter().map(|n| (NUMBER_NAMES[*n as usize], numbers[*n as usize])).collect()
+        };
         let others = vec![
             ("demand 3 with HALT", self.halted_by_rewriting),
             ("demand 3 with DEEP", self.deep_by_rewriting),
+            ("ZERO where rewriting meets it", self.stopped_by_rewriting),
+            ("DEEP before it", self.deep_before_zero),
+            ("HALT past a division nobody looks at", self.halted_past_zero),
             ("return stack of 513", self.deep_by_returns),
             ("data stack of 513", self.deep_by_data),
             ("return stack of 512 and HALT", self.halted_at_512_returns),
@@ -345,7 +359,7 @@ impl Tally {
         ];
         [
             ("Check", named(&self.check_numbers, &[0, 1, 2, 3, 4, 5, 6, 8])),
-            ("Run", named(&self.run_numbers, &[0, 1, 2, 3, 4, 5, 6, 7, 8, 9, 10])),
+            ("Run", named(&self.run_numbers, &[0, 1, 2, 3, 4, 5, 6, 7, 8, 9, 10, 12])),
             ("met", others),
         ]
     }
@@ -365,7 +379,7 @@ fn report(tally: &mut Tally, cases: u64, elapsed: Duration) {
     }
     let Tally { too_large, unfinished, halted_without_rewriting, .. } = tally;
     println!(
-        "rewriting came to no value: term too large {too_large}, rewrites used up {unfinished}; {halted_without_rewriting} of these cases halt"
+        "rewriting came to no end: term too large {too_large}, rewrites used up {unfinished}; {halted_without_rewriting} of these cases halt"
     );
     if cases < ENOUGH_TO_MEET_ALL {
         return;

@@ -1,7 +1,7 @@
 //! The machine of document 000, definition 69: an address and three stacks.
 
 use super::code::{Code, Instruction};
-use crate::boundary::{DEEP, FUEL, HALT, STUCK};
+use crate::boundary::{DEEP, FUEL, HALT, STUCK, ZERO};
 use std::rc::Rc;
 
 /// What a frame holds of one argument.
@@ -44,11 +44,12 @@ pub struct Outcome {
     pub highest: (usize, usize),
 }
 
-/// The heights of return and data stack after a step, and whether the step is a rewrite; none where there is no step.
-struct Prospect {
-    returns: usize,
-    data: usize,
-    rewrite: bool,
+/// What the instruction at hand would do; none where there is no such step.
+enum Prospect {
+    /// The heights of return and data stack after the step, and whether it is a rewrite.
+    Step { returns: usize, data: usize, rewrite: bool },
+    /// It would divide by 0.
+    Zero,
 }
 
 pub fn run(code: &Code, args: &[u32], limit: u32) -> Outcome {
@@ -67,17 +68,19 @@ pub fn run(code: &Code, args: &[u32], limit: u32) -> Outcome {
         if outcome.steps == limit {
             return Outcome { number: FUEL, ..outcome };
         }
-        let Some(prospect) = state.prospect(code) else {
-            return Outcome { number: STUCK, ..outcome };
+        let (returns, data, rewrite) = match state.prospect(code) {
+            None => return Outcome { number: STUCK, ..outcome },
+            Some(Prospect::Zero) => return Outcome { number: ZERO, ..outcome },
+            Some(Prospect::Step { returns, data, rewrite }) => (returns, data, rewrite),
         };
-        if prospect.returns > 512 || prospect.data > 512 {
+        if returns > 512 || data > 512 {
             return Outcome { number: DEEP, ..outcome };
         }
         state.step(code);
-        assert_eq!((state.returns.len(), state.data.len()), (prospect.returns, prospect.data));
+        assert_eq!((state.returns.len(), state.data.len()), (returns, data));
         outcome.steps += 1;
-        outcome.rewrites += prospect.rewrite as u32;
-        outcome.highest = (outcome.highest.0.max(prospect.returns), outcome.highest.1.max(prospect.data));
+        outcome.rewrites += rewrite as u32;
+        outcome.highest = (outcome.highest.0.max(returns), outcome.highest.1.max(data));
     }
 }
 
@@ -105,25 +108,29 @@ impl State {
 
     fn prospect(&self, code: &Code) -> Option<Prospect> {
         let (returns, data) = (self.returns.len(), self.data.len());
+        let step = |returns, data, rewrite| Some(Prospect::Step { returns, data, rewrite });
         match self.instruction(code)? {
             Instruction::Eval { position, .. } => match self.entry(*position)? {
-                Entry::Value(_) => Some(Prospect { returns, data: data + 1, rewrite: false }),
-                Entry::Waiting(_) => Some(Prospect { returns: returns + 1, data, rewrite: false }),
+                Entry::Value(_) => step(returns, data + 1, false),
+                Entry::Waiting(_) => step(returns + 1, data, false),
             },
-            Instruction::Constant { .. } => Some(Prospect { returns, data: data + 1, rewrite: true }),
+            Instruction::Constant { .. } => step(returns, data + 1, true),
             Instruction::Exec { operation, .. } => {
-                Some(Prospect { returns, data: data.checked_sub(operation.arity())? + 1, rewrite: true })
+                let below = data.checked_sub(operation.arity())?;
+                match operation.apply(&self.data[below..]) {
+                    Some(_) => step(returns, below + 1, true),
+                    None => Some(Prospect::Zero),
+                }
             }
-            Instruction::Select { .. } => {
-                (*self.data.last()? <= 1).then_some(Prospect { returns, data: data - 1, rewrite: true })
-            }
+            Instruction::Select { .. } if *self.data.last()? <= 1 => step(returns, data - 1, true),
+            Instruction::Select { .. } => None,
             Instruction::Call { strict, .. } => {
                 self.environments.last()?;
-                Some(Prospect { returns: returns + 1, data: data.checked_sub(*strict as usize)?, rewrite: true })
+                step(returns + 1, data.checked_sub(*strict as usize)?, true)
             }
             Instruction::Ret => {
                 self.environments.last()?;
-                Some(Prospect { returns: returns.checked_sub(1)?, data, rewrite: false })
+                step(returns.checked_sub(1)?, data, false)
             }
         }
     }
@@ -149,7 +156,7 @@ impl State {
             }
             Instruction::Exec { next, operation } => {
                 let values = self.take(operation.arity());
-                self.data.push(operation.apply(&values));
+                self.data.push(operation.apply(&values).unwrap());
                 self.address = Address::Code(*next);
             }
             Instruction::Select { yes, no } => {

@@ -1,4 +1,4 @@
-//! Document 01 in the plainest way: explicit lists and terms, written from the document alone.
+//! The documents in the plainest way: explicit lists and terms, written from the documents alone.
 
 pub mod code;
 pub mod machine;

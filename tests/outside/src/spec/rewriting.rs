@@ -18,6 +18,10 @@ pub enum Rewriting {
         value: u32,
         rewrites: u32,
     },
+    /// The next rewrite would divide by 0.
+    Zero {
+        rewrites: u32,
+    },
     /// No value after as many rewrites as were granted.
     Unfinished,
     /// The term would grow over the size granted; copies are not shared.
@@ -40,6 +44,9 @@ pub fn rewrite(functions: &[Function], args: &[u32], granted: Granted) -> Rewrit
             return Rewriting::Value { value, rewrites };
         }
         let redex = term.leftmost_redex(functions);
+        if redex.divides_by_zero() {
+            return Rewriting::Zero { rewrites };
+        }
         let before = redex.size();
         let after = redex.size_once_rewritten(functions);
         size = size - before + after;
@@ -97,14 +104,18 @@ impl Closed {
         }
     }
 
-    /// Replaces a redex.
+    /// For a redex.
+    fn divides_by_zero(&self) -> bool {
+        matches!(self, Closed::Operation(operation, arguments) if operation.apply(&values_of(arguments)).is_none())
+    }
+
+    /// Replaces a redex that does not divide by 0.
     fn rewrite(&mut self, functions: &[Function]) {
         *self = match self {
             Closed::Value(_) => panic!("a value is not rewritten"),
             Closed::Constant(value) => Closed::Value(*value),
             Closed::Operation(operation, arguments) => {
-                let values: Vec<u32> = arguments.iter().map(Closed::value).collect();
-                Closed::Value(operation.apply(&values))
+                Closed::Value(operation.apply(&values_of(arguments)).expect("no division by 0"))
             }
             Closed::Cond(arguments) => {
                 let branch = if arguments[0].value() == 1 { 1 } else { 2 };
@@ -125,6 +136,10 @@ impl Closed {
             }
         }
     }
+}
+
+fn values_of(arguments: &[Closed]) -> Vec<u32> {
+    arguments.iter().map(Closed::value).collect()
 }
 
 /// A body with arguments put in as they stand.

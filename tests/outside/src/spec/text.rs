@@ -327,8 +327,8 @@ impl Operation {
         }
     }
 
-    /// The operation on values; yes is 1, no is 0.
-    pub fn apply(self, values: &[u32]) -> u32 {
+    /// The operation on values; yes is 1, no is 0. None where it divides by 0.
+    pub fn apply(self, values: &[u32]) -> Option<u32> {
         use Operation::*;
         let two_to_32: u64 = 1 << 32;
         let wide: Vec<u64> = values.iter().map(|value| *value as u64).collect();
@@ -336,16 +336,14 @@ impl Operation {
             Add => (wide[0] + wide[1]) % two_to_32,
             Subtract => (wide[0] + two_to_32 - wide[1]) % two_to_32,
             Multiply => (wide[0] * wide[1]) % two_to_32,
-            Divide if wide[1] == 0 => 0,
-            Divide => wide[0] / wide[1],
-            Remainder if wide[1] == 0 => 0,
-            Remainder => wide[0] % wide[1],
+            Divide => wide[0].checked_div(wide[1])?,
+            Remainder => wide[0].checked_rem(wide[1])?,
             Equal => (wide[0] == wide[1]) as u64,
             Less => (wide[0] < wide[1]) as u64,
             And => (wide[0] == 1 && wide[1] == 1) as u64,
             Or => (wide[0] == 1 || wide[1] == 1) as u64,
             Not => (wide[0] == 0) as u64,
         };
-        result as u32
+        Some(result as u32)
     }
 }
