@@ -17,19 +17,22 @@ extern "C" {
 
 /* The numbers the engine answers with. */
 enum nespralha_number {
-    NESPRALHA_HALT = 0,   /* accepted; for Run, the machine has stopped */
-    NESPRALHA_LONG = 1,   /* text over 16,384 bytes */
-    NESPRALHA_LINE = 2,   /* a line's shape is wrong */
-    NESPRALHA_COUNT = 3,  /* over 64 functions or 1,024 body symbols */
-    NESPRALHA_NAME = 4,   /* a name stands on two lines */
-    NESPRALHA_TERM = 5,   /* a body is not one term of its sort */
-    NESPRALHA_NEST = 6,   /* a symbol at depth 33 */
-    NESPRALHA_ARGS = 7,   /* wrong number of arguments, or a yes/no above 1 */
-    NESPRALHA_ROOM = 8,   /* a lent slice is too short */
-    NESPRALHA_FUEL = 9,   /* step limit met */
-    NESPRALHA_DEEP = 10,  /* a step would make a stack 513 high */
-    NESPRALHA_STUCK = 11, /* the machine has no next step and hasn't stopped */
-    NESPRALHA_ZERO = 12   /* the next step divides by 0 */
+    NESPRALHA_HALT = 0,      /* accepted; for Run, the machine has stopped */
+    NESPRALHA_LONG = 1,      /* text over 16,384 bytes */
+    NESPRALHA_LINE = 2,      /* a line's shape is wrong */
+    NESPRALHA_COUNT = 3,     /* over 64 functions or 1,024 body symbols */
+    NESPRALHA_NAME = 4,      /* a name stands on two lines */
+    NESPRALHA_TERM = 5,      /* a field is left over after a body's term */
+    NESPRALHA_NEST = 6,      /* a symbol at depth 33 */
+    NESPRALHA_ARGS = 7,      /* wrong number of arguments, or a yes/no above 1 */
+    NESPRALHA_ROOM = 8,      /* a lent slice is too short */
+    NESPRALHA_FUEL = 9,      /* step limit met */
+    NESPRALHA_DEEP = 10,     /* a step would make a stack 513 high */
+    NESPRALHA_STUCK = 11,    /* the machine has no next step and hasn't stopped */
+    NESPRALHA_ZERO = 12,     /* the next step divides by 0 */
+    NESPRALHA_UNKNOWN = 13,  /* a field is no known symbol, or an argument the function lacks */
+    NESPRALHA_SORT = 14,     /* a known symbol is of another sort than its place takes */
+    NESPRALHA_SHORT = 15     /* a body ends early */
 };
 
 /* What a caller lends so that no accepted text is refused with ROOM. */
@@ -49,7 +52,7 @@ struct nespralha_checked {
     uint32_t number, line, field, functions, instructions;
 };
 
-/* What Run answers; value is 0 unless HALT, steps and rewrites are 0 after 1 to 8. */
+/* What Run answers; value is 0 unless HALT, steps and rewrites are 0 after 1 to 8 and 13 to 15. */
 struct nespralha_answer {
     uint32_t number, value, line, field, steps, rewrites;
 };
@@ -61,7 +64,7 @@ struct nespralha_checked nespralha_check(const uint8_t *text, size_t text_len, s
 struct nespralha_checked nespralha_translate(const uint8_t *text, size_t text_len, uint32_t *code, size_t code_len);
 
 /* After 0 and after 9 to 12 the code words are as Translate leaves them, the first 8,192 work words are 0, the others unchanged;
- * after 1 to 8 both slices are unchanged. */
+ * after 1 to 8 and 13 to 15 both slices are unchanged. */
 struct nespralha_answer nespralha_run(const uint8_t *text, size_t text_len, const uint32_t *args, size_t args_len, uint32_t limit,
                                       uint32_t *code, size_t code_len, uint32_t *work, size_t work_len);
 

@@ -11,6 +11,7 @@ use Rattle.meaning.specs.Basics.{if_then_else_}
 use Rattle.meaning.specs.Arithmetic.{Sort, number, yes-no, domain}
 use Rattle.meaning.specs.Text.{Line}
 use Rattle.meaning.specs.Terms.{Term, arg, call, Terms, nil, cons, Symbol, argument, operation, condition, function, unknown, Takes, takes, cannot, argument-takes, call-takes, takes-of, same-sort, if-sort, Read, got, fault, first-terms, other-terms, strict-of, condition-of, applied, with-arguments, and-more, then-more, read-row, read-taken, read-term}
+use Rattle.meaning.specs.declared.Wrong.the-variants.{OtherSort}
 use Rattle.meaning.specs.Code.{size, sizes, count}
 use Rattle.accepted.specs.Accepted.{depth, depths, Shaped, AllShaped}
 
@@ -105,7 +106,7 @@ unfolding if-sort
 if-takes s (cannot w) e = clash (cc)
 if-takes s (takes S r) {S = S′} {r = r′} e = chosen (same-sort r s) e
   where
-    chosen : (b : Bool) → (if b then takes S r else cannot Rattle.meaning.specs.Terms.other-sort) ≡ takes S′ r′ → takes S r ≡ takes S′ r′
+    chosen : (b : Bool) → (if b then takes S r else cannot OtherSort) ≡ takes S′ r′ → takes S r ≡ takes S′ r′
     chosen true e = e
     chosen false e = clash (cc)
 

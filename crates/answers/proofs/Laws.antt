@@ -1,6 +1,7 @@
 -- What Translate and Run answer and leave in memory, by the tests that the code makes, in its order. Assumes nothing.
 use mathlib.Core.Path.{_≡_, refl, ap, sym, _∙_}
 use mathlib.Core.Bool.{Bool, true, false, _&&_, false≢true}
+use mathlib.Core.Logic.{inl, inr}
 use mathlib.Core.List.{List, [], _∷_, _++_}
 use Prim.Native.Nat.{ℕ, suc, _+_, _*_, _/_, _%_, _-_, _≤_, _<_}
 use native.Mathlib.Omega.{arith}
@@ -25,7 +26,7 @@ use Rattle.meaning.specs.declared.Answer.{Answer}
 use Rattle.table.specs.Table.{mask, signature, signatures, addresses, Begins}
 use Rattle.table.proofs.Signatures.{sort-small, signature-count, signature-sorts}
 use Rattle.accepted.specs.Accepted.{Accepted, Every}
-use Rattle.accepted.proofs.Refused.{proper, check-proper}
+use Rattle.accepted.proofs.Refused.{Refuses, proper, check-proper}
 use Rattle.accepted.proofs.Accepted.{accepted}
 use Rattle.accepted.proofs.Length.{words-of-written}
 use Rattle.heads.specs.Heads.{no-head, heads-by}
@@ -103,9 +104,10 @@ few-fit (F ∷ P) vs ok h = elim (ℕ-discrete (length vs) (length (F .sorts))) 
 
 -- An answer 0 is an accepted text.
 of-verdict : (x : Verdict Program) → proper x → checked x .number ≡ 0 → (P : Program) × (x ≡ fine P)
-unfolding checked proper
+unfolding checked proper Refuses
 of-verdict (fine P) h e = (P, refl)
-of-verdict (refused n l f) h e = absurd (omega arith)
+of-verdict (refused n l f) (inl h) e = absurd (omega arith)
+of-verdict (refused n l f) (inr h) e = absurd (omega arith)
 
 pub accepted-text : (text : List ℕ) → checked (check text) .number ≡ 0 → (P : Program) × (check text ≡ fine P)
 accepted-text text e = of-verdict (check text) (check-proper text) e

@@ -6,27 +6,31 @@ use Prim.Native.Nat.{ℕ, zero, suc, _+_, _-_, _/_, _%_, _<_, _≤_}
 use native.Mathlib.Omega.{arith}
 use lib.ListN.{length, getD, take, drop, set, length-append, length-map}
 use lib.Seq.{take-at, drop-at, length-take-le, take-append-add}
-use Rattle.meaning.specs.Arithmetic.{modulus}
-use Rattle.meaning.specs.Numbers.{no, most-functions, most-depth}
+use Rattle.meaning.specs.Numbers.{no, most-depth}
 use Rattle.meaning.specs.Text.{Field, Line, Verdict, fine, refused, _>>=_, pieces, line-of, lines, is-name, value, sort-of, wrong-field}
-use Rattle.meaning.specs.Terms as means
 use Rattle.meaning.specs.Terms.{Term, Symbol, symbol, Read, got, fault, Program, read-term, nothing-after, read-body, function-of, read-bodies, wrong-number}
 use Rattle.meaning.specs.Code.{size, bodies-size}
 use Rattle.meaning.specs.Answers.{sort-number}
-use Rattle.table.specs.Table.{first-function, symbol-word, symbol-value, term-words, term-values, term-ends, bodies-words, bodies-values, bodies-ends, addresses-from}
+use Rattle.meaning.specs.declared.Wrong.{Wrong}
+use Rattle.meaning.specs.declared.Wrong.the-variants.{LeftOver}
+use Rattle.table.specs.Table.{symbol-word, symbol-value, term-words, term-values, term-ends, bodies-words, bodies-values, bodies-ends, addresses-from}
 use Rattle.fields.specs.Fields.{span, rest, packed}
-use Rattle.symbols.specs.Symbols.{joined, symbol-by}
-use Rattle.symbols.proofs.Laws.{word-joined, value-joined}
-use Rattle.symbols.proofs.Names.{Names, is-a-name, visible-bytes, symbol-is, symbol-below, all-symbols-spelt}
+use Rattle.symbols.specs.Symbols.{recognised, word-of, value-of, symbol-by}
+use Rattle.symbols.specs.declared.Recognised.{Recognised}
+use Rattle.symbols.specs.declared.Recognised.the-variants.{Known, Unknown}
+use Rattle.symbols.proofs.Laws.{word-recognised, value-recognised}
+use Rattle.symbols.proofs.Names.{Names, is-a-name, visible-bytes, symbol-is, all-symbols-spelt}
 use Rattle.lines.specs.Splice.{splice}
 use Rattle.lines.specs.Lines.{body-fields, total, Right, raw-lines, part, Parted, name-number, line-signature}
-use Rattle.lines.proofs.Splice.{splice-none, splice-more, splice-set, splice-length}
+use Rattle.lines.proofs.Splice.{splice-none, splice-more, splice-set, splice-length, write-on}
 use Rattle.lines.proofs.Laws.{body-length, opened, Visible, Forms, right-forms, few-sorts, strict-few}
-use Rattle.terms.specs.Terms.{wrong-code, Reached, Next, Fault, Few, World, Said, Whole, Within}
+use Rattle.terms.specs.Terms.{Few, World, Said, Whole, Within}
+use Rattle.terms.specs.declared.Reached.{Reached}
+use Rattle.terms.specs.declared.Reached.the-variants.{Next, Fault}
 use Rattle.terms.proofs.Flat.{term-symbols, words-are, values-are, symbol-count, end-count, Taken, taken-term}
 use Rattle.table.proofs.Signatures.{signature-count, signature-result, signature-sorts}
 use Rattle.terms.proofs.Laws.{clash, next-is}
-use Rattle.bodies.specs.Bodies.{words-by, values-by, number-of, Formed, Filled, Lined, Reaches, Finishes}
+use Rattle.bodies.specs.Bodies.{words-by, values-by, Formed, Filled, Lined, Reaches, Finishes}
 use Rattle.bodies.specs.declared.Finished.{Finished}
 use Rattle.bodies.specs.declared.Finished.the-variants.{Done, Refused}
 
@@ -52,16 +56,36 @@ pub no-values : (M : List ℕ) (fs : List Field) → fs ≡ [] → values-by M f
 unfolding values-by
 no-values M fs e = rw e
 
--- A field's symbol, as one number, holds its word and its value.
-module _ (M : List ℕ) (f : Field) (y x : ℕ) (e : y ≡ joined (symbol-by M f)) (h : length M ≤ most-functions) where
-  small : symbol-word (symbol-by M f) < modulus
-  small = omega (arith, symbol-below M f (first-function + most-functions) (omega arith))
+-- What is put into the table.
 
-  pub word-is : x ≡ y % modulus → x ≡ symbol-word (symbol-by M f)
-  word-is q = q ∙ ap (λ (n : ℕ). n % modulus) e ∙ word-joined (symbol-by M f) small
+module _ (y : Recognised) (w v : ℕ) (e : y ≡ Known w v) (c : List ℕ) (j : ℕ) where
+  pub known-word : set c j w ≡ set c j (word-of y)
+  unfolding word-of
+  known-word = rw e
 
-  pub value-is : x ≡ y / modulus → x ≡ symbol-value (symbol-by M f)
-  value-is q = q ∙ ap (λ (n : ℕ). n / modulus) e ∙ value-joined (symbol-by M f) small
+  pub known-value : set c j v ≡ set c j (value-of y)
+  unfolding value-of
+  known-value = rw e
+
+module _ (y : Recognised) (e : y ≡ Unknown) (c : List ℕ) (j : ℕ) where
+  pub unknown-word : set c j 0 ≡ set c j (word-of y)
+  unfolding word-of symbol-word
+  unknown-word = rw e
+
+  pub unknown-value : set c j 0 ≡ set c j (value-of y)
+  unfolding value-of symbol-value
+  unknown-value = rw e
+
+pub put-on : (c d : List ℕ) (j x y : ℕ) (xs ys : List ℕ) → d ≡ set c j x → j < length c → x ≡ y → xs ≡ y ∷ ys → splice d (j + 1) ys ≡ splice c j xs
+put-on c d j x y xs ys e h p q = rw e (write-on c j x y xs ys h p q)
+
+-- What stands in the table for a field's symbol.
+module _ (M : List ℕ) (f : Field) (y : Recognised) (x : ℕ) (e : y ≡ recognised (symbol-by M f)) where
+  pub word-is : x ≡ word-of y → x ≡ symbol-word (symbol-by M f)
+  word-is q = q ∙ ap word-of e ∙ word-recognised (symbol-by M f)
+
+  pub value-is : x ≡ value-of y → x ≡ symbol-value (symbol-by M f)
+  value-is q = q ∙ ap value-of e ∙ value-recognised (symbol-by M f)
 
 -- Words and values by packed names are those of the definition's symbols.
 
@@ -163,10 +187,10 @@ meant-by h w w1 v v1 e e1 W from n X Y ys (got t []) r p q x z k o s d =
     (d .0, p ∙ ap (splice w from) (x ∙ ap (map symbol-word) all ∙ sym (words-are t)), q ∙ ap (splice v from) (z ∙ ap (map symbol-value) all ∙ sym (values-are t)), d .1)
 meant-by h w w1 v v1 e e1 W from n X Y ys (got t (y ∷ zs)) r p q x z k o s d =
     let m : suc (length zs) ≤ length (h .body) = omega (arith, k, ap length s, length-append (term-symbols t) (y ∷ zs)) in
-    (d ∙ ap (Fault (wrong-code means.left-over)) (omega (arith, o, m)), m)
+    (d ∙ ap (Fault LeftOver) (omega (arith, o, m)), m)
 meant-by h w w1 v v1 e e1 W from n X Y ys (fault u zs) r p q x z k o s d =
     let m : length zs ≤ length (h .body) = omega (arith, k, s) in
-    (d ∙ ap (Fault (wrong-code u)) (omega (arith, o, m)), m)
+    (d ∙ ap (Fault u) (omega (arith, o, m)), m)
 
 module _ (line M S : List ℕ) (own from to : ℕ) (w w1 v v1 e e1 : List ℕ) (r : Reached) (a b c d : ℕ) (P : Parted line a b c d) (right : wrong-field (pieces 9 line) ≡ 0)
     (x : to ≡ from + length (rest 9 (drop d line))) (y : w1 ≡ splice w from (words-by M (rest 9 (drop d line)))) (z : v1 ≡ splice v from (values-by M (rest 9 (drop d line))))
@@ -246,32 +270,23 @@ pub none-left : (L hs : List Line) (l from k : ℕ) (b w v e : List ℕ) → hs 
 unfolding Finishes read-bodies bodies-size addresses-from bodies-words bodies-values bodies-ends
 none-left L hs l from k b w v e x = rw x (ap Done (omega arith), splice-none b l, splice-none w from, splice-none v from, splice-none e from)
 
-number-coded : (w : means.Wrong) → number-of (wrong-code w) ≡ no (wrong-number w)
-unfolding number-of wrong-code wrong-number no
-number-coded means.unknown-symbol = refl
-number-coded means.lacking-argument = refl
-number-coded means.other-sort = refl
-number-coded means.early-end = refl
-number-coded means.left-over = refl
-number-coded means.too-deep = refl
-
-fault-is : {r : Reached} {u v p q : ℕ} → r ≡ Fault u p → r ≡ Fault v q → (u ≡ v) × (p ≡ q)
+fault-is : {r : Reached} {u v : Wrong} {p q : ℕ} → r ≡ Fault u p → r ≡ Fault v q → (u ≡ v) × (p ≡ q)
 fault-is p q = (cc, cc)
 
-fault-place : (h : Line) (from : ℕ) (w w1 v v1 e e1 : List ℕ) (R : Read Term) (r : Reached) (x p : ℕ) → Filled h from w w1 v v1 e e1 R r → r ≡ Fault x p → from ≤ p
+fault-place : (h : Line) (from : ℕ) (w w1 v v1 e e1 : List ℕ) (R : Read Term) (r : Reached) (x : Wrong) (p : ℕ) → Filled h from w w1 v v1 e e1 R r → r ≡ Fault x p → from ≤ p
 unfolding Filled
 fault-place h from w w1 v v1 e e1 (got t ys) r x p k q = clash q (k .0)
 fault-place h from w w1 v v1 e e1 (fault u ys) r x p k q = omega (arith, fault-is (k .0) q .1)
 
-fault-line : (L : List Line) (h : Line) (l from : ℕ) (w w1 v v1 e e1 : List ℕ) (hs : List Line) (R : Read Term) (r : Reached) (x p : ℕ) (b b1 w2 v2 e2 : List ℕ) (g : Finished) →
-    Filled h from w w1 v v1 e e1 R r → r ≡ Fault x p → g ≡ Refused (number-of x) (l + 1) (5 + (p - from)) →
+fault-line : (L : List Line) (h : Line) (l from : ℕ) (w w1 v v1 e e1 : List ℕ) (hs : List Line) (R : Read Term) (r : Reached) (x : Wrong) (p : ℕ) (b b1 w2 v2 e2 : List ℕ) (g : Finished) →
+    Filled h from w w1 v v1 e e1 R r → r ≡ Fault x p → g ≡ Refused (no (wrong-number x)) (l + 1) (5 + (p - from)) →
     Finishes l from b b1 w w2 v v2 e e2 (function-of (l + 1) h R >>= λ F. read-bodies L (l + 1 + 1) hs >>= λ P. fine (F ∷ P)) g
 unfolding Filled Finishes function-of _>>=_
 fault-line L h l from w w1 v v1 e e1 hs (got t ys) r x p b b1 w2 v2 e2 g k q z = clash q (k .0)
 fault-line L h l from w w1 v v1 e e1 hs (fault u ys) r x p b b1 w2 v2 e2 g k q z =
     let d = fault-is (k .0) q in
     let m : 5 + (p - from) ≡ 5 + length (h .body) - length ys = omega (arith, d .1, k .1) in
-    z ∙ rw (← d .0, number-coded u, m)
+    z ∙ rw (← d .0, m)
 
 one-more : (l from n : ℕ) (h : Line) (t : Term) (b b1 w w1 w2 v v1 v2 e e1 e2 : List ℕ) (R : Verdict Program) (g : Finished) → l < length b → from ≤ length w → from ≤ length v → from ≤ length e → n ≡ from + size t →
     w1 ≡ splice w from (term-words t) → v1 ≡ splice v from (term-values t) → e1 ≡ splice e from (term-ends t from) →
@@ -313,10 +328,10 @@ module _ (t : List ℕ) (at l e : ℕ) (right : Right (raw-lines t)) (index : dr
       Filled this from w w1 v v1 e0 e1 (read-body (lines t) this) r
   filled M S own from w w1 v v1 e0 e1 r m s o k = k .lined (lines t) m s formed (o ∙ ap (λ (X : List ℕ). getD X l 0) s ∙ here .1)
 
-  pub bad-place : (M S : List ℕ) (own from : ℕ) (w w1 v v1 e0 e1 : List ℕ) (r : Reached) (x p : ℕ) → M ≡ map name-number (lines t) → S ≡ map line-signature (lines t) → own ≡ getD S l 0 → Lined (part t at e) M S own from w w1 v v1 e0 e1 r → r ≡ Fault x p → from ≤ p
+  pub bad-place : (M S : List ℕ) (own from : ℕ) (w w1 v v1 e0 e1 : List ℕ) (r : Reached) (x : Wrong) (p : ℕ) → M ≡ map name-number (lines t) → S ≡ map line-signature (lines t) → own ≡ getD S l 0 → Lined (part t at e) M S own from w w1 v v1 e0 e1 r → r ≡ Fault x p → from ≤ p
   bad-place M S own from w w1 v v1 e0 e1 r x p m s o k q = fault-place this from w w1 v v1 e0 e1 (read-body (lines t) this) r x p (filled M S own from w w1 v v1 e0 e1 r m s o k) q
 
-  pub bad-line : (M S : List ℕ) (own from : ℕ) (w w1 v v1 e0 e1 : List ℕ) (r : Reached) (x p : ℕ) (b b1 : List ℕ) (g : Finished) → M ≡ map name-number (lines t) → S ≡ map line-signature (lines t) → own ≡ getD S l 0 → Lined (part t at e) M S own from w w1 v v1 e0 e1 r → r ≡ Fault x p → g ≡ Refused (number-of x) (l + 1) (5 + (p - from)) →
+  pub bad-line : (M S : List ℕ) (own from : ℕ) (w w1 v v1 e0 e1 : List ℕ) (r : Reached) (x : Wrong) (p : ℕ) (b b1 : List ℕ) (g : Finished) → M ≡ map name-number (lines t) → S ≡ map line-signature (lines t) → own ≡ getD S l 0 → Lined (part t at e) M S own from w w1 v v1 e0 e1 r → r ≡ Fault x p → g ≡ Refused (no (wrong-number x)) (l + 1) (5 + (p - from)) →
       Finishes l from b b1 w w1 v v1 e0 e1 (read-bodies (lines t) (l + 1) (lines (drop at t))) g
   unfolding read-bodies
   bad-line M S own from w w1 v v1 e0 e1 r x p b b1 g m s o k q z =
@@ -334,3 +349,7 @@ module _ (t : List ℕ) (at l e : ℕ) (right : Right (raw-lines t)) (index : dr
 pub next-reach : (from n p : ℕ) (r : Reached) → Reaches from n r → r ≡ Next p → p ≤ from + n
 unfolding Reaches
 next-reach from n p r h e = subst (Reaches from n) e h
+
+pub fault-reach : (from n p : ℕ) (v : Wrong) (r : Reached) → Reaches from n r → r ≡ Fault v p → p ≤ from + n
+unfolding Reaches
+fault-reach from n p v r h e = subst (Reaches from n) e h

@@ -3,18 +3,17 @@ use mathlib.Core.Path.{_≡_}
 use mathlib.Core.Bool.{true}
 use mathlib.Core.List.{List, [], _∷_, map}
 use Prim.Native.Nat.{ℕ, _+_, _-_, _≤_}
-use lib.Dec.{eqb}
 use lib.ListN.{length}
-use Rattle.meaning.specs.Basics.{if_then_else_}
-use Rattle.meaning.specs.Numbers.{no, TERM, NEST, most-arguments}
+use Rattle.meaning.specs.Numbers.{no, most-arguments}
 use Rattle.meaning.specs.Text.{Field, Line, Verdict, fine, refused, pieces, line-of, is-name}
-use Rattle.meaning.specs.Terms.{Term, too-deep, Read, got, fault, Program, read-body}
+use Rattle.meaning.specs.Terms.{Term, Read, got, fault, Program, read-body}
 use Rattle.meaning.specs.Code.{size, bodies-size}
 use Rattle.table.specs.Table.{symbol-word, symbol-value, term-words, term-values, term-ends, bodies-words, bodies-values, bodies-ends, addresses-from}
 use Rattle.symbols.specs.Symbols.{symbol-by}
 use Rattle.lines.specs.Splice.{splice}
 use Rattle.lines.specs.Lines.{name-number, line-signature}
-use Rattle.terms.specs.Terms.{wrong-code, Reached, Next, Fault}
+use Rattle.terms.specs.declared.Reached.{Reached}
+use Rattle.terms.specs.declared.Reached.the-variants.{Next, Fault}
 use Rattle.bodies.specs.declared.Finished.{Finished}
 use Rattle.bodies.specs.declared.Finished.the-variants.{Done, Refused}
 
@@ -27,10 +26,6 @@ unfoldable pub values-by : List ℕ → List Field → List ℕ
 values-by M [] = []
 values-by M (f ∷ fs) = symbol-value (symbol-by M f) ∷ values-by M fs
 
--- The number that the engine answers for what is wrong, by its code.
-unfoldable pub number-of : ℕ → ℕ
-number-of w = if eqb w (wrong-code too-deep) then no NEST else no TERM
-
 -- Functions whose lines are of the right shape.
 unfoldable pub Formed : List Line → Type 0
 Formed [] = Unit {0}
@@ -40,7 +35,7 @@ Formed (h ∷ hs) = (is-name (h .name) ≡ true) × (length (h .sorts) ≤ most-
 unfoldable pub Filled : Line → ℕ → List ℕ → List ℕ → List ℕ → List ℕ → List ℕ → List ℕ → Read Term → Reached → Type 0
 Filled h from w w′ v v′ e e′ (got t ys) r =
     (r ≡ Next (from + size t)) × (w′ ≡ splice w from (term-words t)) × (v′ ≡ splice v from (term-values t)) × (e′ ≡ splice e from (term-ends t from))
-Filled h from w w′ v v′ e e′ (fault x ys) r = (r ≡ Fault (wrong-code x) (from + (length (h .body) - length ys))) × (length ys ≤ length (h .body))
+Filled h from w w′ v v′ e e′ (fault x ys) r = (r ≡ Fault x (from + (length (h .body) - length ys))) × (length ys ≤ length (h .body))
 
 pub record Lined (line M S : List ℕ) (own from : ℕ) (w w′ v v′ e e′ : List ℕ) (r : Reached) : Type 0 where
   pub lined : (H : List Line) → M ≡ map name-number H → S ≡ map line-signature H → Formed H → own ≡ line-signature (line-of (pieces 9 line)) →

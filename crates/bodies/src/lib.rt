@@ -1,17 +1,21 @@
 // The bodies of a text by line: each body's fields go as symbols into the table, then the table is read as one term. Two looks at each byte (where a
 // line and its fields end), one to make a symbol of a field, one comparison a function for a name. Assumes nothing.
+use meaning::Wrong;
+use symbols::Recognised;
+use terms::Reached;
 ghost use mathlib.Core.Path.{_≡_};
 ghost use mathlib.Core.List.{map};
 ghost use Prim.Native.Nat.{_+_, _-_, _≤_, _<_};
-ghost use lib.ListN.{length, drop};
-ghost use Rattle.meaning.specs.Numbers.{most-bytes, most-functions};
+ghost use lib.ListN.{length, drop, set};
+ghost use Rattle.meaning.specs.Arithmetic.{modulus};
+ghost use Rattle.meaning.specs.Numbers.{no, most-bytes, most-functions};
 ghost use Rattle.meaning.specs.Text.{wrong-field, pieces, lines};
-ghost use Rattle.meaning.specs.Terms.{read-bodies};
+ghost use Rattle.meaning.specs.Terms.{wrong-number, read-bodies};
 ghost use Rattle.fields.specs.Fields.{rest};
+ghost use Rattle.symbols.specs.Symbols.{word-of, value-of};
 ghost use Rattle.lines.specs.Splice.{splice};
 ghost use Rattle.lines.specs.Lines.{body-fields, total, Right, raw-lines, name-number, line-signature};
-ghost use Rattle.terms.specs.Terms.{faults, reached};
-ghost use Rattle.bodies.specs.Bodies.{words-by, values-by, number-of, Lined, Reaches, Finishes};
+ghost use Rattle.bodies.specs.Bodies.{words-by, values-by, Lined, Reaches, Finishes};
 
 // What reading all bodies comes to: the address after the last, or number, line and field.
 pub enum Finished {
@@ -21,6 +25,24 @@ pub enum Finished {
 
 // The field of a body's first symbol.
 const FIRST_SYMBOL: usize = 5;
+
+// What was recognised, into the table at j.
+fn put(y: Recognised, j: usize, words: &mut [u32], values: &mut [u32])
+    requires { ⌜ (j < length (now words)) × (j < length (now values)) ⌝ }
+    ensures words { λ _. ⌜ now (words .exit) ≡ set (now (words .entry)) j (word-of y) ⌝ }
+    ensures values { λ _. ⌜ now (values .exit) ≡ set (now (values .entry)) j (value-of y) ⌝ }
+{
+    match y {
+        Recognised::Known(word, value) => {
+            words[j] = word;
+            values[j] = value;
+        }
+        Recognised::Unknown => {
+            words[j] = table::UNKNOWN;
+            values[j] = 0;
+        }
+    }
+}
 
 // The fields after the tab at `at` as symbols, into the table from `from` on; the address after them.
 fn fill(
@@ -42,9 +64,7 @@ fn fill(
     while i < line.len() {
         let a = i + 1;
         let e = fields::piece_end(line, a, fields::TAB);
-        let y = symbols::symbol_of(names, &line[a..e]);
-        words[j] = symbols::word(y);
-        values[j] = symbols::value(y);
+        put(symbols::symbol_of(names, &line[a..e]), j, words, values);
         i = e;
         j += 1;
     }
@@ -61,11 +81,11 @@ fn read_line(
     words: &mut [u32],
     values: &mut [u32],
     ends: &mut [u32],
-) -> usize
+) -> Reached
     requires { ⌜ (length (now names) ≤ most-functions) × (wrong-field (pieces 9 (now line)) ≡ 0) ⌝ }
-    requires { ⌜ (from + body-fields (now line) ≤ length (now words)) × (from + body-fields (now line) ≤ length (now values)) × (from + body-fields (now line) ≤ length (now ends)) × (from + body-fields (now line) < faults) ⌝ }
-    ensures read { λ r. ⌜ Lined (now (line .entry)) (now (names .entry)) (now (heads .entry)) own from (now (words .entry)) (now (words .exit)) (now (values .entry)) (now (values .exit)) (now (ends .entry)) (now (ends .exit)) (reached r) ⌝ }
-    ensures within { λ r. ⌜ Reaches from (body-fields (now (line .entry))) (reached r) ⌝ }
+    requires { ⌜ (from + body-fields (now line) ≤ length (now words)) × (from + body-fields (now line) ≤ length (now values)) × (from + body-fields (now line) ≤ length (now ends)) × (from + body-fields (now line) < modulus) ⌝ }
+    ensures read { λ r. ⌜ Lined (now (line .entry)) (now (names .entry)) (now (heads .entry)) own from (now (words .entry)) (now (words .exit)) (now (values .entry)) (now (values .exit)) (now (ends .entry)) (now (ends .exit)) r ⌝ }
+    ensures within { λ r. ⌜ Reaches from (body-fields (now (line .entry))) r ⌝ }
 {
     let t = lines::tabs_of(line);
     let at = t.result;
@@ -74,19 +94,23 @@ fn read_line(
 }
 
 // The number that the engine answers for what is wrong.
-fn number(wrong: usize) -> u32
-    ensures { λ r. ⌜ r ≡ number-of wrong ⌝ }
+fn number(wrong: Wrong) -> u32
+    ensures { λ r. ⌜ r ≡ no (wrong-number wrong) ⌝ }
 {
-    if wrong == terms::TOO_DEEP {
-        return meaning::NEST;
+    match wrong {
+        Wrong::UnknownSymbol => meaning::UNKNOWN,
+        Wrong::LackingArgument => meaning::UNKNOWN,
+        Wrong::OtherSort => meaning::SORT,
+        Wrong::EarlyEnd => meaning::SHORT,
+        Wrong::LeftOver => meaning::TERM,
+        Wrong::TooDeep => meaning::NEST,
     }
-    meaning::TERM
 }
 
 // What is wrong at address p of line l counted from 0, whose body begins at `from`.
-fn fault(wrong: usize, l: usize, from: usize, p: usize) -> Finished
-    requires { ⌜ (from ≤ p) × (p < faults) × (l ≤ most-functions) ⌝ }
-    ensures { λ r. ⌜ r ≡ Finished.Refused (number-of wrong) (l + 1) (5 + (p - from)) ⌝ }
+fn fault(wrong: Wrong, l: usize, from: usize, p: usize) -> Finished
+    requires { ⌜ (from ≤ p) × (5 + (p - from) < modulus) × (l ≤ most-functions) ⌝ }
+    ensures { λ r. ⌜ r ≡ Finished.Refused (no (wrong-number wrong)) (l + 1) (5 + (p - from)) ⌝ }
 {
     Finished::Refused(
         number(wrong),
@@ -110,7 +134,7 @@ pub fn read_lines(
 ) -> Finished
     requires { ⌜ (length (now text) ≤ most-bytes) × Right (raw-lines (now text)) × Right (raw-lines (drop at (now text))) × (drop l (lines (now text)) ≡ lines (drop at (now text))) ⌝ }
     requires { ⌜ (now names ≡ map name-number (lines (now text))) × (now heads ≡ map line-signature (lines (now text))) × (length (lines (now text)) ≤ most-functions) × (l ≤ most-functions) ⌝ }
-    requires { ⌜ (length (lines (now text)) ≤ length (now bodies)) × (from + total (lines (drop at (now text))) ≤ length (now words)) × (from + total (lines (drop at (now text))) ≤ length (now values)) × (from + total (lines (drop at (now text))) ≤ length (now ends)) × (from + total (lines (drop at (now text))) < faults) ⌝ }
+    requires { ⌜ (length (lines (now text)) ≤ length (now bodies)) × (from + total (lines (drop at (now text))) ≤ length (now words)) × (from + total (lines (drop at (now text))) ≤ length (now values)) × (from + total (lines (drop at (now text))) ≤ length (now ends)) × (5 + (from + total (lines (drop at (now text)))) < modulus) ⌝ }
     ensures { λ r. ⌜ Finishes l from (now (bodies .entry)) (now (bodies .exit)) (now (words .entry)) (now (words .exit)) (now (values .entry)) (now (values .exit)) (now (ends .entry)) (now (ends .exit)) (read-bodies (lines (now (text .entry))) (l + 1) (lines (drop at (now (text .entry))))) r ⌝ }
 {
     if text.len() <= at {
@@ -121,7 +145,7 @@ pub fn read_lines(
         return Finished::Done(from);
     }
     bodies[l] = lines::narrow(from);
-    let next = read_line(
+    match read_line(
         &text[at..e],
         names,
         heads,
@@ -130,9 +154,9 @@ pub fn read_lines(
         words,
         values,
         ends,
-    );
-    if next < terms::FAULTS {
-        return read_lines(
+    ) {
+        Reached::Fault(wrong, p) => fault(wrong, l, from, p),
+        Reached::Next(next) => read_lines(
             text,
             e + 1,
             l + 1,
@@ -143,7 +167,6 @@ pub fn read_lines(
             words,
             values,
             ends,
-        );
+        ),
     }
-    fault(next / terms::FAULTS, l, from, next % terms::FAULTS)
 }

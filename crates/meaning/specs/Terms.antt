@@ -8,8 +8,10 @@ use lib.Dec.{ltb}
 use lib.ListN.{length, getElem?}
 use Rattle.meaning.specs.Basics.{if_then_else_, between, all, byte, bytes}
 use Rattle.meaning.specs.Arithmetic.{modulus, Sort, number, yes-no, Op, constant, add, sub, mul, div, rem, eq, lt, and, or, neg, domain, range}
-use Rattle.meaning.specs.Numbers.{Number, TERM, NEST, most-depth}
+use Rattle.meaning.specs.Numbers.{Number, TERM, NEST, UNKNOWN, SORT, SHORT, most-depth}
 use Rattle.meaning.specs.Text.{Verdict, fine, refused, _>>=_, Field, Line, is-digit, value, same}
+use Rattle.meaning.specs.declared.Wrong.{Wrong}
+use Rattle.meaning.specs.declared.Wrong.the-variants.{UnknownSymbol, LackingArgument, OtherSort, EarlyEnd, LeftOver, TooDeep}
 
 -- What a body is made of. A constant is an operation without arguments; a call has its strict arguments apart from those that wait.
 mutual
@@ -83,18 +85,15 @@ symbol N f = spelt-in vocabulary f (if is-decimal f then operation (constant num
 
 -- Sorts.
 
--- What is wrong at a field: no known symbol, an argument the function lacks, a symbol of another sort, a body that ends early, a field left over, a symbol at depth 33.
-pub data Wrong : Type 0 where
-  unknown-symbol lacking-argument other-sort early-end left-over too-deep : Wrong
-
--- The number that the engine answers for it.
+-- What is wrong at a field, and the number that the engine answers for it.
+-- Document 02, c): "13 UNKNOWN, 14 SORT, 15 SHORT take their cases from 5 TERM, which keeps a field left over, known or not"
 unfoldable pub wrong-number : Wrong → Number
-wrong-number unknown-symbol = TERM
-wrong-number lacking-argument = TERM
-wrong-number other-sort = TERM
-wrong-number early-end = TERM
-wrong-number left-over = TERM
-wrong-number too-deep = NEST
+wrong-number UnknownSymbol = UNKNOWN  -- no known symbol
+wrong-number LackingArgument = UNKNOWN  -- an argument the function lacks
+wrong-number OtherSort = SORT  -- a known symbol of another sort than its place takes
+wrong-number EarlyEnd = SHORT  -- a body that ends early
+wrong-number LeftOver = TERM  -- a field left over
+wrong-number TooDeep = NEST  -- a symbol at depth 33
 
 -- What a symbol takes and gives, or what is wrong with it.
 pub data Takes : Type 0 where
@@ -103,11 +102,11 @@ pub data Takes : Type 0 where
 
 -- An argument takes nothing and has its own sort; a call takes what its function says.
 unfoldable pub argument-takes : Option Sort → Takes
-argument-takes none = cannot lacking-argument
+argument-takes none = cannot LackingArgument
 argument-takes (some s) = takes [] s
 
 unfoldable pub call-takes : Option Line → Takes
-call-takes none = cannot unknown-symbol
+call-takes none = cannot UnknownSymbol
 call-takes (some h) = takes (h .sorts) (h .result)
 
 -- Among the functions H, in a body whose arguments have the sorts G, at a place where the sort s is expected.
@@ -117,7 +116,7 @@ takes-of H G s (argument i) = argument-takes (getElem? G i)
 takes-of H G s (operation o) = takes (domain o) (range o)
 takes-of H G s condition = takes (yes-no ∷ s ∷ s ∷ []) s
 takes-of H G s (function f) = call-takes (getElem? H f)
-takes-of H G s unknown = cannot unknown-symbol
+takes-of H G s unknown = cannot UnknownSymbol
 
 -- "of the wrong sort": what a symbol gives has to be what is expected.
 unfoldable pub same-sort : Sort → Sort → Bool
@@ -129,7 +128,7 @@ same-sort yes-no yes-no = true
 -- What a symbol takes, if it gives the sort s.
 unfoldable pub if-sort : Sort → Takes → Takes
 if-sort s (cannot w) = cannot w
-if-sort s (takes S r) = if same-sort r s then takes S r else cannot other-sort
+if-sort s (takes S r) = if same-sort r s then takes S r else cannot OtherSort
 
 -- Reading.
 
@@ -193,17 +192,17 @@ read-taken H y (takes S r) here row = with-arguments H y (row S)
 read-taken H y (cannot w) here row = fault w here
 
 -- "Reading a term means reading its symbol, then as many argument terms as it takes." A term of sort s; symbols may stand d deep.
--- "NEST goes before TERM at one field"
+-- "NEST goes before TERM at one field": at depth 33 the symbol is not looked at.
 unfoldable pub read-term : List Line → List Sort → ℕ → Sort → List Symbol → Read Term
-read-term H G zero s [] = fault early-end []
-read-term H G zero s (y ∷ ys) = fault too-deep (y ∷ ys)
-read-term H G (suc d) s [] = fault early-end []
+read-term H G zero s [] = fault EarlyEnd []
+read-term H G zero s (y ∷ ys) = fault TooDeep (y ∷ ys)
+read-term H G (suc d) s [] = fault EarlyEnd []
 read-term H G (suc d) s (y ∷ ys) = read-taken H y (if-sort s (takes-of H G s y)) (y ∷ ys) λ S. read-row (read-term H G d) S ys
 
 -- "or left over after the term": a body is one term and nothing after it.
 unfoldable pub nothing-after : Read Term → Read Term
 nothing-after (got t []) = got t []
-nothing-after (got t (y ∷ ys)) = fault left-over (y ∷ ys)
+nothing-after (got t (y ∷ ys)) = fault LeftOver (y ∷ ys)
 nothing-after (fault w ys) = fault w ys
 
 -- "A symbol may stand as an argument of another to a depth of 32, the body's first symbol being at depth 1."
@@ -215,7 +214,7 @@ unfoldable pub function-of : ℕ → Line → Read Term → Verdict Function
 function-of l h (got t ys) = fine (record { sorts = h .sorts; strict = h .strict; result = h .result; body = t })
 function-of l h (fault w ys) = refused (wrong-number w) l (5 + length (h .body) - length ys)
 
--- The bodies of the lines from line l on, in order: "5 and 6 by the first place".
+-- The bodies of the lines from line l on, in order: "5 and 6 by the first place", and so the numbers that were 5.
 unfoldable pub read-bodies : List Line → ℕ → List Line → Verdict Program
 read-bodies H l [] = fine []
 read-bodies H l (h ∷ hs) = function-of l h (read-body H h) >>= λ F. read-bodies H (l + 1) hs >>= λ P. fine (F ∷ P)

@@ -31,6 +31,17 @@ pub struct Answer {
     pub rewrites: u32,
 }
 
+// What is wrong at a field of a body: no known symbol, an argument the function lacks, a symbol of another sort than its place takes, a body that ends
+// early, a field left over, a symbol at depth 33. specs/Terms.antt gives the number for each.
+pub enum Wrong {
+    UnknownSymbol,
+    LackingArgument,
+    OtherSort,
+    EarlyEnd,
+    LeftOver,
+    TooDeep,
+}
+
 // The numbers, as specs/Numbers.antt has them.
 pub const HALT: u32 = 0;
 
@@ -57,6 +68,12 @@ pub const DEEP: u32 = 10;
 pub const STUCK: u32 = 11;
 
 pub const ZERO: u32 = 12;
+
+pub const UNKNOWN: u32 = 13;
+
+pub const SORT: u32 = 14;
+
+pub const SHORT: u32 = 15;
 
 // The limits.
 pub const MOST_BYTES: usize = 16384;

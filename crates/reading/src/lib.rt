@@ -7,13 +7,13 @@ ghost use mathlib.Core.Path.{_≡_};
 ghost use mathlib.Core.List.{map, _∷_};
 ghost use Prim.Native.Nat.{_+_, _%_, _≤_, _<_};
 ghost use lib.ListN.{length};
+ghost use Rattle.meaning.specs.Arithmetic.{modulus};
 ghost use Rattle.meaning.specs.Numbers.{most-bytes, most-functions, most-symbols};
 ghost use Rattle.meaning.specs.Text.{fine, judge-shape, lines};
 ghost use Rattle.meaning.specs.Terms.{Program};
 ghost use Rattle.meaning.specs.Check.{check};
 ghost use Rattle.meaning.specs.Answers.{checked};
 ghost use Rattle.table.specs.Table.{result-unit, first-function, Holds};
-ghost use Rattle.terms.specs.Terms.{faults};
 ghost use Rattle.lines.specs.Splice.{splice};
 ghost use Rattle.lines.specs.Lines.{Right, raw-lines, total, name-number, line-signature};
 ghost use Rattle.reading.specs.Reading.{refusal, acceptance, upto, zeros, after-shape, after-counts, after-names, Outcome, Room, Fit, Noted};
@@ -38,7 +38,7 @@ fn refused(number: u32, line: u32, field: u32) -> Checked
 
 // The last instruction is RET.
 fn accepted(functions: usize, end: usize) -> Checked
-    requires { ⌜ (functions ≤ most-functions) × (end < faults) ⌝ }
+    requires { ⌜ (functions ≤ most-functions) × (end + 1 < modulus) ⌝ }
     ensures { λ r. ⌜ r ≡ acceptance functions (end + 1) ⌝ }
 {
     Checked {
@@ -155,7 +155,7 @@ fn read_shaped(
     }
 }
 
-// "Order: 1, then 2 over all lines, 3, 4, then 5 and 6 by the first place"
+// "Order: 1, then 2 over all lines, 3, 4, then 5 and 6 by the first place"; 13, 14 and 15 stand where 5 stood.
 pub fn read(
     text: &[u8],
     names: &mut [u64],

@@ -52,8 +52,8 @@ starred-rows =
     ∷ refuses "" 2 1 1
     ∷ refuses "ID\t1\tn\tn\ta" 2 1 0
     ∷ refuses "X\t2\tn\tn\ta\n" 2 1 3
-    ∷ refuses "X\t0\tn\tn\tb\n" 5 1 5
-    ∷ refuses "X\t0\tn\tn\t+\ta\n" 5 1 7
+    ∷ refuses "X\t0\tn\tn\tb\n" 13 1 5
+    ∷ refuses "X\t0\tn\tn\t+\ta\n" 15 1 7
     ∷ refuses "X\t0\tn\tn\ta\ta\n" 5 1 6
     ∷ []
 
@@ -67,11 +67,12 @@ abbrev pub other-rows : List Row
 other-rows =
     runs pair (9 ∷ 7 ∷ []) 518 (answers 10 0 517 513)
     ∷ runs pair (9 ∷ 7 ∷ []) 517 (answers 9 0 517 513)
-    ∷ refuses "X\t0\tn\tb\ta\n" 5 1 5
-    ∷ refuses "X\t0\tn\tn\t4294967296\n" 5 1 5
+    ∷ refuses "X\t0\tn\tb\ta\n" 14 1 5
+    ∷ refuses "X\t0\tn\tn\t4294967296\n" 13 1 5
     ∷ runs "X\t0\tn\tn\t4294967295\n" (7 ∷ []) 100 (answers 0 4294967295 4 2)
     ∷ runs "X\t0\tn\tb\t!\t!\t!\t!\t!\t!\t!\t!\t!\t!\t!\t!\t!\t!\t!\t!\t!\t!\t!\t!\t!\t!\t!\t!\t!\t!\t!\t!\t!\t!\t!\ttrue\n" (7 ∷ []) 100 (answers 0 0 35 33)
     ∷ refuses "X\t0\tn\tb\t!\t!\t!\t!\t!\t!\t!\t!\t!\t!\t!\t!\t!\t!\t!\t!\t!\t!\t!\t!\t!\t!\t!\t!\t!\t!\t!\t!\t!\t!\t!\t!\ttrue\n" 6 1 37
+    ∷ refuses "X\t0\tn\tb\t!\t!\t!\t!\t!\t!\t!\t!\t!\t!\t!\t!\t!\t!\t!\t!\t!\t!\t!\t!\t!\t!\t!\t!\t!\t!\t!\t!\t!\t!\t!\t!\n" 15 1 37
     ∷ []
 
 pub others : map (λ r. six-fields (r .text) (r .args) (r .limit)) other-rows ≡ map (λ r. r .answer) other-rows

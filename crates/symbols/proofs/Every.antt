@@ -5,11 +5,11 @@ use Prim.Native.Nat.{ℕ, zero, suc, _+_, _<_}
 use native.Mathlib.Nat.{add-zero, zero-add, add-suc, suc-add, le-of-suc-le-suc, not-suc-le-zero}
 use lib.Dec.{T}
 
-first-of : (a b : Bool) → T (a && b) → T a
+pub first-of : (a b : Bool) → T (a && b) → T a
 first-of true b t = tt
 first-of false b t = t
 
-second-of : (a b : Bool) → T (a && b) → T b
+pub second-of : (a b : Bool) → T (a && b) → T b
 second-of true b t = t
 second-of false b t = absurd t
 

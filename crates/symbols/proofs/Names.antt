@@ -2,19 +2,19 @@
 use mathlib.Core.Path.{_≡_, refl, ap, sym, _∙_}
 use mathlib.Core.List.{List, [], _∷_, map}
 use mathlib.Core.Bool.{Bool, true, false, _&&_, _||_}
-use Prim.Native.Nat.{ℕ, suc, _+_, _*_, _<_, _≤_}
+use Prim.Native.Nat.{ℕ, suc, _+_, _<_, _≤_}
 use native.Mathlib.Omega.{arith}
 use lib.Dec.{ltb, leb, eqb}
 use lib.ListN.{length, getD}
 use borrow.Author.Tests.{ne-eqb, ltb-true, leb-true}
 use Rattle.meaning.specs.Basics.{if_then_else_, all, between, bytes}
-use Rattle.meaning.specs.Arithmetic.{modulus, number, yes-no, constant, op-constant}
+use Rattle.meaning.specs.Arithmetic.{number, yes-no, constant}
 use Rattle.meaning.specs.Text.{Field, same, value, is-name, is-visible, is-capital, is-digit}
 use Rattle.meaning.specs.Terms.{Symbol, operation, condition, function, unknown, Word, vocabulary, spelt-in, named, is-decimal, symbol}
-use Rattle.table.specs.Table.{number-word, symbol-word, symbol-value, op-word}
 use Rattle.fields.specs.Fields.{packed, is-name-byte}
 use Rattle.fields.proofs.Laws.{and-false, and-left, and-right, Bytes, packed-same}
-use Rattle.symbols.specs.Symbols.{Named, Spelt, All-spelt, named-as, joined, short-symbol, one-byte-symbol, decimal-or, some-bytes-symbol, symbol-by}
+use Rattle.symbols.specs.Symbols.{recognised, Named, Spelt, All-spelt, named-as, short-symbol, or-else, one-byte-symbol, decimal-or, some-bytes-symbol, symbol-by}
+use Rattle.symbols.specs.declared.Recognised.{Recognised}
 
 -- Names and visible fields are made of bytes from 1 to 255.
 
@@ -85,28 +85,26 @@ named-long i (n ∷ N) f p h = rw (other-lengths f n (λ e. omega (arith, p .0 .
 
 Spoken : List Word → Type 0
 Spoken [] = Unit {0}
-Spoken (w ∷ ws) = (eqb (joined (w .means)) 0 ≡ false) × Spoken ws
+Spoken (w ∷ ws) = ((y : Symbol) → or-else (w .means) y ≡ w .means) × Spoken ws
 
 spoken : Spoken vocabulary
-unfolding Spoken joined symbol-word op-word symbol-value op-constant
-spoken = (refl, (refl, (refl, (refl, (refl, (refl, (refl, (refl, (refl, (refl, (refl, (refl, (refl, (refl, (refl, (refl, (refl, (refl, (refl, (refl, (refl, tt)))))))))))))))))))))
+unfolding Spoken or-else
+spoken = (λ y. refl, (λ y. refl, (λ y. refl, (λ y. refl, (λ y. refl, (λ y. refl, (λ y. refl, (λ y. refl, (λ y. refl, (λ y. refl, (λ y. refl, (λ y. refl, (λ y. refl, (λ y. refl, (λ y. refl, (λ y. refl, (λ y. refl, (λ y. refl, (λ y. refl, (λ y. refl, (λ y. refl, tt)))))))))))))))))))))
 
-spelt-by : (t : Bool) (m y z Z : Symbol) → eqb (joined m) 0 ≡ false → Z ≡ (if eqb (joined z) 0 then y else z) →
-    (if t then m else Z) ≡ (if eqb (joined (if t then m else z)) 0 then y else (if t then m else z))
-spelt-by true m y z Z e x = rw e
+spelt-by : (t : Bool) (m y z Z : Symbol) → or-else m y ≡ m → Z ≡ or-else z y → (if t then m else Z) ≡ or-else (if t then m else z) y
+spelt-by true m y z Z e x = sym e
 spelt-by false m y z Z e x = x
 
 spelt-or : (ws : List Word) (f : Field) (d : Bool) (v : ℕ) (y : Symbol) → Spoken ws →
-    spelt-in ws f (if d then operation (constant number v) else y)
-    ≡ (if eqb (joined (spelt-in ws f (if d then operation (constant number v) else unknown))) 0 then y else spelt-in ws f (if d then operation (constant number v) else unknown))
-unfolding spelt-in joined symbol-word op-word symbol-value op-constant Spoken
-spelt-or [] f true v y p = rw (ne-eqb (number-word + modulus * v) 0 λ e. omega (arith, e))
+    spelt-in ws f (if d then operation (constant number v) else y) ≡ or-else (spelt-in ws f (if d then operation (constant number v) else unknown)) y
+unfolding spelt-in or-else Spoken
+spelt-or [] f true v y p = refl
 spelt-or [] f false v y p = refl
 spelt-or (w ∷ ws) f d v y p =
     spelt-by (same f (w .spelt)) (w .means) y (spelt-in ws f (if d then operation (constant number v) else unknown))
-    (spelt-in ws f (if d then operation (constant number v) else y)) (p .0) (spelt-or ws f d v y (p .1))
+    (spelt-in ws f (if d then operation (constant number v) else y)) (p .0 y) (spelt-or ws f d v y (p .1))
 
-symbol-or : (N : List Field) (f : Field) → symbol N f ≡ (if eqb (joined (symbol [] f)) 0 then named 0 N f else symbol [] f)
+symbol-or : (N : List Field) (f : Field) → symbol N f ≡ or-else (symbol [] f) (named 0 N f)
 unfolding symbol named
 symbol-or N f = spelt-or vocabulary f (is-decimal f) (value f) (named 0 N f) spoken
 
@@ -166,76 +164,10 @@ named-names [] p = tt
 named-names (n ∷ N) p = (is-a-name n (p .0), named-names N (p .1))
 
 -- Where the packed names are those of N, a visible field is N's symbol.
-pub meant : (M : List ℕ) (f : Field) (r : ℕ) → r ≡ joined (symbol-by M f) →
-    (r ≡ joined (symbol-by M f)) × ((N : List Field) → Named N → M ≡ map packed N → is-visible f ≡ true → r ≡ joined (symbol N f))
+pub meant : (M : List ℕ) (f : Field) (r : Recognised) → r ≡ recognised (symbol-by M f) →
+    (r ≡ recognised (symbol-by M f)) × ((N : List Field) → Named N → M ≡ map packed N → is-visible f ≡ true → r ≡ recognised (symbol N f))
 meant M f r e =
-    (e, λ N p m v. e ∙ ap (λ (X : List ℕ). joined (symbol-by X f)) m ∙ ap joined (symbol-is N f (named-names N p) (visible-bytes f v)))
-
--- Words are small.
-
-Below : List Word → Type 0
-Below [] = Unit {0}
-Below (w ∷ ws) = (symbol-word (w .means) ≤ 21) × Below ws
-
-below : Below vocabulary
-unfolding Below symbol-word op-word
-below = (omega arith, (omega arith, (omega arith, (omega arith, (omega arith, (omega arith, (omega arith, (omega arith, (omega arith, (omega arith, (omega arith, (omega arith, (omega arith, (omega arith, (omega arith, (omega arith, (omega arith, (omega arith, (omega arith, (omega arith, (omega arith, tt)))))))))))))))))))))
-
-if-below : (t : Bool) (y z : Symbol) (n : ℕ) → symbol-word y ≤ n → symbol-word z ≤ n → symbol-word (if t then y else z) ≤ n
-if-below true y z n p q = p
-if-below false y z n p q = q
-
-spelt-below : (ws : List Word) (f : Field) (y : Symbol) (n : ℕ) → Below ws → 21 ≤ n → symbol-word y ≤ n → symbol-word (spelt-in ws f y) ≤ n
-unfolding spelt-in Below
-spelt-below [] f y n p h q = q
-spelt-below (w ∷ ws) f y n p h q = if-below (same f (w .spelt)) (w .means) (spelt-in ws f y) n (omega (arith, p .0)) (spelt-below ws f y n (p .1) h q)
-
-number-below : (i n : ℕ) → 32 + i ≤ n → symbol-word (function i) ≤ n
-unfolding symbol-word
-number-below i n h = h
-
-named-below : (i : ℕ) (M : List ℕ) (p n : ℕ) → 32 + i + length M ≤ n → symbol-word (named-as i M p) ≤ n
-unfolding named-as symbol-word
-named-below i [] p n h = omega arith
-named-below i (m ∷ M) p n h = if-below (eqb p m) (function i) (named-as (i + 1) M p) n (number-below i n (omega (arith, h))) (named-below (i + 1) M p n (omega (arith, h)))
-
-nine-below : (v n : ℕ) → 21 ≤ n → symbol-word (operation (constant number v)) ≤ n
-unfolding symbol-word op-word
-nine-below v n h = omega arith
-
-none-below : (n : ℕ) → symbol-word unknown ≤ n
-unfolding symbol-word
-none-below n = omega arith
-
-words-below : (n : ℕ) → 21 ≤ n → (symbol-word (operation (constant yes-no 1)) ≤ n) × (symbol-word (operation (constant yes-no 0)) ≤ n) × (symbol-word condition ≤ n)
-unfolding symbol-word op-word
-words-below n h = (omega arith, omega arith, omega arith)
-
-decimal-below : (f : Field) (y : Symbol) (n : ℕ) → 21 ≤ n → symbol-word y ≤ n → symbol-word (decimal-or f y) ≤ n
-unfolding decimal-or
-decimal-below f y n h p = if-below (is-decimal f) (operation (constant number (value f))) y n (nine-below (value f) n h) p
-
-plain-below : (f : Field) (n : ℕ) → 21 ≤ n → symbol-word (symbol [] f) ≤ n
-unfolding symbol named
-plain-below f n h = spelt-below vocabulary f _ n below h (if-below (is-decimal f) (operation (constant number (value f))) unknown n (nine-below (value f) n h) (none-below n))
-
-one-byte-below : (M : List ℕ) (f : Field) (n : ℕ) → 32 + length M ≤ n → symbol-word (one-byte-symbol M f) ≤ n
-unfolding one-byte-symbol short-symbol
-one-byte-below M f n h = if-below (eqb (joined (short-symbol (getD f 0 0))) 0) (named-as 0 M (packed f)) (short-symbol (getD f 0 0)) n (named-below 0 M (packed f) n (omega arith)) (plain-below (getD f 0 0 ∷ []) n (omega arith))
-
-some-bytes-below : (M : List ℕ) (f : Field) (n : ℕ) → 32 + length M ≤ n → symbol-word (some-bytes-symbol M f) ≤ n
-unfolding some-bytes-symbol
-some-bytes-below M f n h =
-    let k = words-below n (omega arith) in
-    if-below (eqb (packed f) (packed (bytes "true"))) _ _ n (k .0)
-    (if-below (eqb (packed f) (packed (bytes "false"))) _ _ n (k .1)
-    (if-below (eqb (packed f) (packed (bytes "cond"))) condition _ n (k .2) (decimal-below f (named-as 0 M (packed f)) n (omega arith) (named-below 0 M (packed f) n (omega arith)))))
-
-pub symbol-below : (M : List ℕ) (f : Field) (n : ℕ) → 32 + length M ≤ n → symbol-word (symbol-by M f) ≤ n
-unfolding symbol-by
-symbol-below M f n h =
-    if-below (eqb (length f) 1) (one-byte-symbol M f) _ n (one-byte-below M f n h)
-    (if-below (ltb 8 (length f)) (decimal-or f unknown) (some-bytes-symbol M f) n (decimal-below f unknown n (omega arith) (none-below n)) (some-bytes-below M f n h))
+    (e, λ N p m v. e ∙ ap (λ (X : List ℕ). recognised (symbol-by X f)) m ∙ ap recognised (symbol-is N f (named-names N p) (visible-bytes f v)))
 
 -- Of the symbols of a text, the arguments are a to h.
 Words-spelt : List Word → Type 0

@@ -1,21 +1,39 @@
--- Symbols as numbers, and by packed names. Assumes nothing.
+-- What is recognised in a field, and symbols by packed names. Assumes nothing.
 use mathlib.Core.Path.{_≡_}
 use mathlib.Core.Bool.{true}
 use mathlib.Core.List.{List, [], _∷_}
-use Prim.Native.Nat.{ℕ, _+_, _-_, _*_, _<_}
+use Prim.Native.Nat.{ℕ, _+_, _-_, _<_}
 use lib.Dec.{ltb, leb, eqb}
 use lib.ListN.{length, getD}
 use Rattle.meaning.specs.Basics.{if_then_else_, byte, bytes}
-use Rattle.meaning.specs.Arithmetic.{modulus, number, yes-no, constant}
+use Rattle.meaning.specs.Arithmetic.{number, yes-no, constant}
 use Rattle.meaning.specs.Numbers.{most-arguments}
 use Rattle.meaning.specs.Text.{Field, value, is-name}
 use Rattle.meaning.specs.Terms.{Symbol, argument, operation, condition, function, unknown, is-decimal, symbol}
 use Rattle.table.specs.Table.{number-word, add-word, sub-word, mul-word, div-word, rem-word, eq-word, lt-word, and-word, or-word, neg-word, symbol-word, symbol-value}
 use Rattle.fields.specs.Fields.{packed}
+use Rattle.symbols.specs.declared.Recognised.{Recognised}
+use Rattle.symbols.specs.declared.Recognised.the-variants.{Known, Unknown}
 
--- A symbol as one number: its word in the table, and 2^32 times its value there.
-unfoldable pub joined : Symbol → ℕ
-joined y = symbol-word y + modulus * symbol-value y
+-- A symbol in the code's case: known, with its word and its value in the table, or unknown.
+unfoldable pub known : Symbol → Recognised
+known y = Known (symbol-word y) (symbol-value y)
+
+unfoldable pub recognised : Symbol → Recognised
+recognised (argument i) = known (argument i)
+recognised (operation o) = known (operation o)
+recognised condition = known condition
+recognised (function f) = known (function f)
+recognised unknown = Unknown
+
+-- What stands in the table for it.
+unfoldable pub word-of : Recognised → ℕ
+word-of (Known w v) = w
+word-of Unknown = symbol-word unknown
+
+unfoldable pub value-of : Recognised → ℕ
+value-of (Known w v) = v
+value-of Unknown = symbol-value unknown
 
 -- A symbol that a text can spell: its arguments are a to h.
 unfoldable pub Spelt : Symbol → Type 0
@@ -45,49 +63,57 @@ named-as i (n ∷ ns) p = if eqb p n then function i else named-as (i + 1) ns p
 unfoldable pub short-symbol : ℕ → Symbol
 short-symbol b = symbol [] (b ∷ [])
 
--- The same as a number, by tests: signs below '0', bytes below 'a', all bytes.
-unfoldable pub sign-by : ℕ → ℕ
+-- The same by tests: signs below '0', bytes below 'a', all bytes.
+unfoldable pub sign-by : ℕ → Recognised
 sign-by b =
     if eqb b (byte "!")
-    then neg-word
+    then Known neg-word 0
     else if eqb b (byte "%")
-    then rem-word
+    then Known rem-word 0
     else if eqb b (byte "&")
-    then and-word
+    then Known and-word 0
     else if eqb b (byte "*")
-    then mul-word
+    then Known mul-word 0
     else if eqb b (byte "+")
-    then add-word
+    then Known add-word 0
     else if eqb b (byte "-")
-    then sub-word
+    then Known sub-word 0
     else if eqb b (byte "/")
-    then div-word
-    else 0
+    then Known div-word 0
+    else Unknown
 
-unfoldable pub low-by : ℕ → ℕ
+unfoldable pub low-by : ℕ → Recognised
 low-by b =
     if ltb b (byte "0")
     then sign-by b
     else if leb b (byte "9")
-    then number-word + modulus * (b - byte "0")
+    then Known number-word (b - byte "0")
     else if eqb b (byte "<")
-    then lt-word
+    then Known lt-word 0
     else if eqb b (byte "=")
-    then eq-word
-    else 0
+    then Known eq-word 0
+    else Unknown
 
-unfoldable pub short-by : ℕ → ℕ
+unfoldable pub short-by : ℕ → Recognised
 short-by b =
     if ltb b (byte "a")
     then low-by b
     else if leb b (byte "h")
-    then b - byte "a" + 1
+    then Known (b - byte "a" + 1) 0
     else if eqb b (byte "|")
-    then or-word
-    else 0
+    then Known or-word 0
+    else Unknown
+
+-- A symbol, or else another where it is unknown.
+unfoldable pub or-else : Symbol → Symbol → Symbol
+or-else (argument i) y = argument i
+or-else (operation o) y = operation o
+or-else condition y = condition
+or-else (function f) y = function f
+or-else unknown y = y
 
 unfoldable pub one-byte-symbol : List ℕ → Field → Symbol
-one-byte-symbol M f = if eqb (joined (short-symbol (getD f 0 0))) 0 then named-as 0 M (packed f) else short-symbol (getD f 0 0)
+one-byte-symbol M f = or-else (short-symbol (getD f 0 0)) (named-as 0 M (packed f))
 
 unfoldable pub decimal-or : Field → Symbol → Symbol
 decimal-or f y = if is-decimal f then operation (constant number (value f)) else y

@@ -1,6 +1,8 @@
 // The table of symbols that Check's core fills and Translate's core reads: definitions in specs/. No functions.
 
-// Words of symbols: arguments, constants (a number, then `true` and `false`), operations, `cond` and functions.
+// Words of symbols: an unknown one, arguments, constants (a number, then `true` and `false`), operations, `cond` and functions.
+pub const UNKNOWN: u32 = 0;
+
 pub const FIRST_ARGUMENT: u32 = 1;
 
 pub const FIRST_CONSTANT: u32 = 9;

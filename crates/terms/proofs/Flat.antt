@@ -9,8 +9,9 @@ use lib.ListN.{length, length-append, getElem?}
 use Rattle.meaning.specs.Basics.{if_then_else_}
 use Rattle.meaning.specs.Arithmetic.{Sort, yes-no, Op, op-constant}
 use Rattle.meaning.specs.Text.{Line}
-use Rattle.meaning.specs.Terms.{Term, arg, op, cond, call, Terms, nil, cons, Symbol, argument, operation, condition, function, unknown, Wrong, Takes, takes, cannot, Read, got, fault, first-terms, other-terms, strict-of, condition-of, applied, with-arguments, and-more, then-more, read-row, read-taken, read-term, argument-takes, takes-of, same-sort, if-sort}
+use Rattle.meaning.specs.Terms.{Term, arg, op, cond, call, Terms, nil, cons, Symbol, argument, operation, condition, function, unknown, Takes, takes, cannot, Read, got, fault, first-terms, other-terms, strict-of, condition-of, applied, with-arguments, and-more, then-more, read-row, read-taken, read-term, argument-takes, takes-of, same-sort, if-sort}
 use Rattle.meaning.specs.Code.{size, sizes, count}
+use Rattle.meaning.specs.declared.Wrong.{Wrong}
 use Rattle.accepted.proofs.Reading.{parted-sizes}
 use Rattle.table.specs.Table.{symbol-word, symbol-value, op-word, term-words, row-words, term-values, row-values, term-ends, row-ends}
 

@@ -20,8 +20,9 @@ use Rattle.table.specs.Table.{symbol-word, op-word, mask, signature}
 use Rattle.table.proofs.Signatures.{sort-small, signature-count, signature-result, signature-sorts}
 use Rattle.symbols.specs.Symbols.{Spelt}
 use Rattle.lines.specs.Lines.{line-signature}
-use Rattle.terms.specs.Terms.{wrong-code, shown-takes, signed-by, argument-by, function-by, operation-by, takes-by, Few, World}
+use Rattle.terms.specs.Terms.{shown-takes, signed-by, argument-by, function-by, operation-by, takes-by, Few, World}
 use Rattle.terms.specs.declared.Takes.the-variants.{Args, Cannot}
+use Rattle.meaning.specs.declared.Wrong.the-variants.{UnknownSymbol, LackingArgument, OtherSort}
 
 -- Sorts as numbers.
 
@@ -46,8 +47,8 @@ no-element (s ∷ G) zero h = absurd (omega (arith, h))
 no-element (s ∷ G) (suc i) h = no-element G i (omega (arith, h))
 
 -- A symbol that gives the sort r and takes the sorts S.
-if-shown : (t : Bool) (S : List Sort) (r : Sort) → (if t then Args (length S) (mask S) else Cannot (wrong-code means.other-sort)) ≡ shown-takes (if t then means.takes S r else means.cannot means.other-sort)
-unfolding shown-takes wrong-code
+if-shown : (t : Bool) (S : List Sort) (r : Sort) → (if t then Args (length S) (mask S) else Cannot OtherSort) ≡ shown-takes (if t then means.takes S r else means.cannot OtherSort)
+unfolding shown-takes
 if-shown true S r = refl
 if-shown false S r = refl
 
@@ -58,7 +59,7 @@ signed-is S k r s h =
 
 -- Operations.
 op-is : (H : List ℕ) (own : ℕ) (o : Op) (s : Sort) → takes-by H own (sort-number s) (op-word o) ≡ shown-takes (if-sort s (means.takes (domain o) (range o)))
-unfolding takes-by op-word signed-by operation-by sort-number shown-takes wrong-code if-sort same-sort domain range mask
+unfolding takes-by op-word signed-by operation-by sort-number shown-takes if-sort same-sort domain range mask
 op-is H own (constant number v) number = refl
 op-is H own (constant number v) yes-no = refl
 op-is H own (constant yes-no v) number = refl
@@ -90,13 +91,13 @@ cond-is H own number = refl
 cond-is H own yes-no = refl
 
 -- Arguments.
-none-shown : (t : Bool) (r : Sort) → (if t then Args 0 0 else Cannot (wrong-code means.other-sort)) ≡ shown-takes (if t then means.takes [] r else means.cannot means.other-sort)
-unfolding shown-takes wrong-code mask
+none-shown : (t : Bool) (r : Sort) → (if t then Args 0 0 else Cannot OtherSort) ≡ shown-takes (if t then means.takes [] r else means.cannot OtherSort)
+unfolding shown-takes mask
 none-shown true r = refl
 none-shown false r = refl
 
-lacking-shown : Cannot (wrong-code means.lacking-argument) ≡ shown-takes (means.cannot means.lacking-argument)
-unfolding shown-takes wrong-code
+lacking-shown : Cannot LackingArgument ≡ shown-takes (means.cannot LackingArgument)
+unfolding shown-takes
 lacking-shown = refl
 
 argument-is : (own i : ℕ) (G : List Sort) (s : Sort) (t : Bool) → own % 16 ≡ length G → own / 32 % 256 ≡ mask G → ltb i (length G) ≡ t →
@@ -108,11 +109,11 @@ argument-is own i G s true p q e =
 argument-is own i G s false p q e = rw (p, e, no-element G i (ltb-false i (length G) e)) lacking-shown
 
 -- Functions.
-unknown-shown : Cannot (wrong-code means.unknown-symbol) ≡ shown-takes (means.cannot means.unknown-symbol)
-unfolding shown-takes wrong-code
+unknown-shown : Cannot UnknownSymbol ≡ shown-takes (means.cannot UnknownSymbol)
+unfolding shown-takes
 unknown-shown = refl
 
-none-called : (s : Sort) → Cannot (wrong-code means.unknown-symbol) ≡ shown-takes (if-sort s (means.cannot means.unknown-symbol))
+none-called : (s : Sort) → Cannot UnknownSymbol ≡ shown-takes (if-sort s (means.cannot UnknownSymbol))
 unfolding if-sort
 none-called s = unknown-shown
 
@@ -147,7 +148,7 @@ word-function H own s f =
     let e : 32 + f - 32 ≡ f = omega arith in
     rw (ne-eqb (32 + f) 0 (λ z. omega (arith, z)), le-ltb (32 + f) 9 (omega arith), ne-eqb (32 + f) 21 (λ z. omega (arith, z)), le-ltb (32 + f) 32 (omega arith), e)
 
-word-unknown : (H : List ℕ) (own s : ℕ) → takes-by H own s 0 ≡ Cannot (wrong-code means.unknown-symbol)
+word-unknown : (H : List ℕ) (own s : ℕ) → takes-by H own s 0 ≡ Cannot UnknownSymbol
 unfolding takes-by
 word-unknown H own s = refl
 

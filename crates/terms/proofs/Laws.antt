@@ -1,15 +1,11 @@
 -- Laws of reading terms over words, by the tests that the code makes. Assumes nothing.
 use mathlib.Core.Path.{_≡_, refl, ap, sym, _∙_, subst}
-use mathlib.Core.Bool.{Bool, true, false}
-use mathlib.Core.List.{List, [], _∷_, _++_, map}
+use mathlib.Core.List.{List, [], _∷_, _++_, map, append-nil}
 use Prim.Native.Nat.{ℕ, zero, suc, _+_, _-_, _*_, _/_, _%_, _^_, _<_, _≤_}
 use native.Mathlib.Omega.{arith}
 use native.Mathlib.Numerals.{add-one, sub-one}
 use lib.ListN.{length, getD, drop, set, length-drop, length-append, length-map, drop-of-length-le}
 use lib.Seq.{drop-cons, drop-at, drop-drop}
-use lib.Dec.{ltb, eqb}
-use borrow.Author.Tests.{lt-ltb, le-ltb, ltb-true, ltb-false}
-use Rattle.meaning.specs.Basics.{if_then_else_}
 use Rattle.meaning.specs.Numbers.{most-depth}
 use Rattle.meaning.specs.Arithmetic.{Sort}
 use Rattle.meaning.specs.Text.{Line}
@@ -21,41 +17,24 @@ use Rattle.table.specs.Table.{symbol-word, term-ends, row-ends, mask}
 use Rattle.symbols.specs.Symbols.{Spelt, All-spelt}
 use Rattle.lines.specs.Splice.{splice}
 use Rattle.lines.proofs.Splice.{splice-none, splice-more, splice-head}
-use Rattle.terms.specs.Terms.{wrong-code, Reached, Next, Fault, faults, reached, shown-takes, signed-by, argument-by, function-by, operation-by, takes-by, World, Symbols, Said, Saids, Told, Tolds, Whole, Within}
+use Rattle.terms.specs.Terms.{shown-takes, takes-by, World, Symbols, Said, Saids, Told, Tolds, Whole, Within}
 use Rattle.terms.specs.declared.Takes.{Takes}
 use Rattle.terms.specs.declared.Takes.the-variants.{Args, Cannot}
+use Rattle.terms.specs.declared.Reached.{Reached}
+use Rattle.terms.specs.declared.Reached.the-variants.{Next, Fault}
+use Rattle.meaning.specs.declared.Wrong.{Wrong}
+use Rattle.meaning.specs.declared.Wrong.the-variants.{EarlyEnd, LeftOver, TooDeep}
 use Rattle.terms.proofs.Flat.{term-symbols, map-append, symbol-count, end-count, size-one, Applies, Node, node, takes-applies, sorted, Taken, Takens, taken-term, taken-terms}
 use Rattle.table.proofs.Signatures.{sort-small}
 use Rattle.terms.proofs.Judged.{judged}
 
 -- Answers.
 
-pub clash : {A : Type 0} {r : Reached} {w p n : ℕ} → r ≡ Fault w p → r ≡ Next n → A
+pub clash : {A : Type 0} {r : Reached} {w : Wrong} {p n : ℕ} → r ≡ Fault w p → r ≡ Next n → A
 clash p q = let z : _≡_ {A = ℕ} 0 1 = cc in absurd (omega arith)
 
 pub next-is : {r : Reached} {n m : ℕ} → r ≡ Next n → r ≡ Next m → m ≡ n
 next-is p q = cc
-
--- What a number says.
-
-pub says-next : (r : ℕ) → r < faults → reached r ≡ Next r
-unfolding reached
-says-next r h = rw (lt-ltb r faults h)
-
-pub says-fault : (r : ℕ) → faults ≤ r → reached r ≡ Fault (r / faults) (r % faults)
-unfolding reached
-says-fault r h = rw (le-ltb r faults h)
-
-pub fault-said : (w p r : ℕ) → 0 < w → p < faults → r ≡ faults * w + p → reached r ≡ Fault w p
-fault-said w p r h l e =
-    let x : r / faults ≡ w = omega (arith, e, l) in
-    let y : r % faults ≡ p = omega (arith, e, l) in
-    says-fault r (omega (arith, e, h)) ∙ rw (x, y)
-
--- A place that a number says is that number.
-only-next : (n r : ℕ) (b : Bool) → ltb r faults ≡ b → reached r ≡ Next n → r ≡ n
-only-next n r true e q = next-is q (says-next r (ltb-true r faults e))
-only-next n r false e q = clash (says-fault r (ltb-false r faults e)) q
 
 -- The symbols from a place on.
 
@@ -96,8 +75,8 @@ unfolding read-row Saids sizes row-ends
 no-args W H own at d e w [] ys p = (ap Next (omega arith), splice-none e at)
 no-args W H own at d e w (s ∷ S) ys p = absurd (omega (arith, p))
 
-pub args-none : (W H : List ℕ) (own at d n m : ℕ) (e : List ℕ) (r : Reached) → n ≡ 0 → r ≡ Next at → Tolds W H own at d n m e e r
-args-none W H own at d n m e r z x = record { tolds = λ w S ys p q h. rw x (no-args W H own at d e w S ys (sym z ∙ p)) }
+pub args-none : (W H : List ℕ) (own at d n m : ℕ) (e : List ℕ) → n ≡ 0 → Tolds W H own at d n m e e (Next at)
+args-none W H own at d n m e z = record { tolds = λ w S ys p q h. no-args W H own at d e w S ys (sym z ∙ p) }
 
 more-join : (W e e1 e2 : List ℕ) (at next : ℕ) (t : Term) (r : Reached) (R : Read Terms) → next ≡ at + size t → e1 ≡ splice e at (term-ends t at) → at ≤ length e →
     Saids W next e1 e2 R r → Saids W at e e2 (and-more t R) r
@@ -137,43 +116,44 @@ pub args-more : (W H : List ℕ) (own at d n m next : ℕ) (e e1 e2 : List ℕ) 
 args-more W H own at d n m next e e1 e2 r1 r2 l z p q k =
     record { tolds = λ w S ys x y h. args-step W H own at d n m next e e1 e2 r1 r2 w S ys l z p q k x y h }
 
-fault-by : (W e e1 : List ℕ) (at p v : ℕ) (r : Reached) (R : Read Term) (F : List Symbol → Read Terms) → Said W at e e1 R r → r ≡ Fault v p → Saids W at e e1 (then-more R F) r
+fault-by : (W e e1 : List ℕ) (at p : ℕ) (v : Wrong) (r : Reached) (R : Read Term) (F : List Symbol → Read Terms) → Said W at e e1 R r → r ≡ Fault v p → Saids W at e e1 (then-more R F) r
 unfolding Said Saids then-more
 fault-by W e e1 at p v r (fault w zs) F x y = x
 fault-by W e e1 at p v r (got t zs) F x y = clash y (x .0)
 
-args-stop : (W H : List ℕ) (own at d n m p v : ℕ) (e e1 : List ℕ) (r : Reached) (w : World H own) (S : List Sort) (ys : List Symbol) → (n ≡ 0 → ⊥) →
+args-stop : (W H : List ℕ) (own at d n m p : ℕ) (v : Wrong) (e e1 : List ℕ) (r : Reached) (w : World H own) (S : List Sort) (ys : List Symbol) → (n ≡ 0 → ⊥) →
     Told W H own at d (m % 2) e e1 r → r ≡ Fault v p → n ≡ length S → m ≡ mask S → Symbols W at ys → Saids W at e e1 (read-row (read-term (w .functions) (w .arguments) d) S ys) r
 unfolding read-row mask
 args-stop W H own at d n m p v e e1 r w [] ys z x y a b h = absurd (z a)
 args-stop W H own at d n m p v e e1 r w (s ∷ S) ys z x y a b h =
     fault-by W e e1 at p v r (read-term (w .functions) (w .arguments) d s ys) (read-row (read-term (w .functions) (w .arguments) d) S) (x .told w s ys (omega (arith, b, sort-small s)) h) y
 
-pub args-fault : (W H : List ℕ) (own at d n m p v : ℕ) (e e1 : List ℕ) (r : Reached) → (n ≡ 0 → ⊥) → Told W H own at d (m % 2) e e1 r → r ≡ Fault v p → Tolds W H own at d n m e e1 r
-args-fault W H own at d n m p v e e1 r z x y = record { tolds = λ w S ys a b h. args-stop W H own at d n m p v e e1 r w S ys z x y a b h }
+pub args-fault : (W H : List ℕ) (own at d n m p : ℕ) (v : Wrong) (e e1 : List ℕ) (r : Reached) → (n ≡ 0 → ⊥) → Told W H own at d (m % 2) e e1 r → r ≡ Fault v p → Tolds W H own at d n m e e1 (Fault v p)
+args-fault W H own at d n m p v e e1 r z x y =
+    subst (Tolds W H own at d n m e e1) y (record { tolds = λ w S ys a b h. args-stop W H own at d n m p v e e1 r w S ys z x y a b h })
 
 -- Terms.
 
-early : (W H : List ℕ) (own at d : ℕ) (e e1 : List ℕ) (w : World H own) (s : Sort) (ys : List Symbol) → length W ≤ at → Symbols W at ys → Said W at e e1 (read-term (w .functions) (w .arguments) d s ys) (Fault (wrong-code means.early-end) (length W))
-unfolding read-term Said wrong-code
-early W H own at zero e e1 w s [] l h = ap (Fault (wrong-code means.early-end)) (omega arith)
-early W H own at (suc d) e e1 w s [] l h = ap (Fault (wrong-code means.early-end)) (omega arith)
+early : (W H : List ℕ) (own at d : ℕ) (e e1 : List ℕ) (w : World H own) (s : Sort) (ys : List Symbol) → length W ≤ at → Symbols W at ys → Said W at e e1 (read-term (w .functions) (w .arguments) d s ys) (Fault EarlyEnd (length W))
+unfolding read-term Said
+early W H own at zero e e1 w s [] l h = ap (Fault EarlyEnd) (omega arith)
+early W H own at (suc d) e e1 w s [] l h = ap (Fault EarlyEnd) (omega arith)
 early W H own at d e e1 w s (y ∷ ys) l h = absurd (none-there W at y ys l (h .here))
 
-pub term-none : (W H : List ℕ) (own at d s : ℕ) (e e1 : List ℕ) (r : Reached) → length W ≤ at → r ≡ Fault (wrong-code means.early-end) (length W) → Told W H own at d s e e1 r
-term-none W H own at d s e e1 r l q = record { told = λ w σ ys x h. rw q (early W H own at d e e1 w σ ys l h) }
+pub term-none : (W H : List ℕ) (own at d s : ℕ) (e e1 : List ℕ) → length W ≤ at → Told W H own at d s e e1 (Fault EarlyEnd (length W))
+term-none W H own at d s e e1 l = record { told = λ w σ ys x h. early W H own at d e e1 w σ ys l h }
 
 place : (W : List ℕ) (at : ℕ) (y : Symbol) (ys : List Symbol) → at < length W → drop at W ≡ map symbol-word (y ∷ ys) → at ≡ length W - suc (length ys)
 place W at y ys h e = omega (arith, length-drop at W, ap length e, length-map ys symbol-word)
 
-deep : (W H : List ℕ) (own at d : ℕ) (e e1 : List ℕ) (w : World H own) (s : Sort) (ys : List Symbol) → at < length W → d ≡ 0 → Symbols W at ys → Said W at e e1 (read-term (w .functions) (w .arguments) d s ys) (Fault (wrong-code means.too-deep) at)
-unfolding read-term Said wrong-code
+deep : (W H : List ℕ) (own at d : ℕ) (e e1 : List ℕ) (w : World H own) (s : Sort) (ys : List Symbol) → at < length W → d ≡ 0 → Symbols W at ys → Said W at e e1 (read-term (w .functions) (w .arguments) d s ys) (Fault TooDeep at)
+unfolding read-term Said
 deep W H own at d e e1 w s [] l z h = absurd (some-there W at l (h .here))
-deep W H own at zero e e1 w s (y ∷ ys) l z h = ap (Fault (wrong-code means.too-deep)) (place W at y ys l (h .here))
+deep W H own at zero e e1 w s (y ∷ ys) l z h = ap (Fault TooDeep) (place W at y ys l (h .here))
 deep W H own at (suc d) e e1 w s (y ∷ ys) l z h = absurd (omega (arith, z))
 
-pub term-deep : (W H : List ℕ) (own at d s : ℕ) (e e1 : List ℕ) (r : Reached) → at < length W → d ≡ 0 → r ≡ Fault (wrong-code means.too-deep) at → Told W H own at d s e e1 r
-term-deep W H own at d s e e1 r l z q = record { told = λ w σ ys x h. rw q (deep W H own at d e e1 w σ ys l z h) }
+pub term-deep : (W H : List ℕ) (own at d s : ℕ) (e e1 : List ℕ) → at < length W → d ≡ 0 → Told W H own at d s e e1 (Fault TooDeep at)
+term-deep W H own at d s e e1 l z = record { told = λ w σ ys x h. deep W H own at d e e1 w σ ys l z h }
 
 -- What the first symbol takes.
 asked : (W H : List ℕ) (own at s : ℕ) (w : World H own) (σ : Sort) (y : Symbol) (ys : List Symbol) (t : Takes) → at < length W → s ≡ sort-number σ → Symbols W at (y ∷ ys) → takes-by H own s (getD W at 0) ≡ t →
@@ -181,13 +161,13 @@ asked : (W H : List ℕ) (own at s : ℕ) (w : World H own) (σ : Sort) (y : Sym
 asked W H own at s w σ y ys t l x h e =
     sym (judged H own w σ y (first-spelt y ys (h .spelt))) ∙ rw (← x, ← (first-there W at y ys l (h .here) .0)) e
 
-cannot-take : (W : List ℕ) (at : ℕ) (e e1 : List ℕ) (H : List Line) (y : Symbol) (ys : List Symbol) (v : ℕ) (t : means.Takes) (f : List Sort → Read Terms) → at ≡ length W - suc (length ys) → shown-takes t ≡ Cannot v →
+cannot-take : (W : List ℕ) (at : ℕ) (e e1 : List ℕ) (H : List Line) (y : Symbol) (ys : List Symbol) (v : Wrong) (t : means.Takes) (f : List Sort → Read Terms) → at ≡ length W - suc (length ys) → shown-takes t ≡ Cannot v →
     Said W at e e1 (read-taken H y t (y ∷ ys) f) (Fault v at)
 unfolding read-taken Said shown-takes
-cannot-take W at e e1 H y ys v (means.cannot w) f p x = let z : wrong-code w ≡ v = cc in rw z (ap (Fault v) p)
+cannot-take W at e e1 H y ys v (means.cannot w) f p x = let z : w ≡ v = cc in rw z (ap (Fault v) p)
 cannot-take W at e e1 H y ys v (means.takes S r) f p x = let z : _≡_ {A = ℕ} 0 1 = cc in absurd (omega arith)
 
-bad : (W H : List ℕ) (own at d s v : ℕ) (e e1 : List ℕ) (w : World H own) (σ : Sort) (ys : List Symbol) → at < length W → (d ≡ 0 → ⊥) → takes-by H own s (getD W at 0) ≡ Cannot v → s ≡ sort-number σ → Symbols W at ys →
+bad : (W H : List ℕ) (own at d s : ℕ) (v : Wrong) (e e1 : List ℕ) (w : World H own) (σ : Sort) (ys : List Symbol) → at < length W → (d ≡ 0 → ⊥) → takes-by H own s (getD W at 0) ≡ Cannot v → s ≡ sort-number σ → Symbols W at ys →
     Said W at e e1 (read-term (w .functions) (w .arguments) d σ ys) (Fault v at)
 unfolding read-term
 bad W H own at d s v e e1 w σ [] l z x q h = absurd (some-there W at l (h .here))
@@ -195,8 +175,8 @@ bad W H own at zero s v e e1 w σ (y ∷ ys) l z x q h = absurd (z refl)
 bad W H own at (suc d) s v e e1 w σ (y ∷ ys) l z x q h =
     cannot-take W at e e1 (w .functions) y ys v (if-sort σ (takes-of (w .functions) (w .arguments) σ y)) (λ S. read-row (read-term (w .functions) (w .arguments) d) S ys) (place W at y ys l (h .here)) (asked W H own at s w σ y ys (Cannot v) l q h x)
 
-pub term-bad : (W H : List ℕ) (own at d s v : ℕ) (e e1 : List ℕ) (r : Reached) → at < length W → (d ≡ 0 → ⊥) → takes-by H own s (getD W at 0) ≡ Cannot v → r ≡ Fault v at → Told W H own at d s e e1 r
-term-bad W H own at d s v e e1 r l z x y = record { told = λ w σ ys q h. rw y (bad W H own at d s v e e1 w σ ys l z x q h) }
+pub term-bad : (W H : List ℕ) (own at d s : ℕ) (v : Wrong) (e e1 : List ℕ) → at < length W → (d ≡ 0 → ⊥) → takes-by H own s (getD W at 0) ≡ Cannot v → Told W H own at d s e e1 (Fault v at)
+term-bad W H own at d s v e e1 l z x = record { told = λ w σ ys q h. bad W H own at d s v e e1 w σ ys l z x q h }
 
 node-got : (W e e1 : List ℕ) (at next : ℕ) (r : Reached) (H : List Line) (y : Symbol) (S : List Sort) (ys : List Symbol) (R : Read Terms) → at < length W → length W ≤ length e → Applies y (length S) → Takens S ys R →
     Saids W (at + 1) e e1 R r → r ≡ Next next → Said W at e (set e1 at next) (with-arguments H y R) r
@@ -232,16 +212,17 @@ good W H own at (suc d) s n m next e e1 r w σ (y ∷ ys) h l z x p q o g =
     (λ S u v. (simp sub-one at p) .tolds w S ys u v (symbols-next W at y ys h g)) q
 
 pub term-got : (W H : List ℕ) (own at d s n m next v : ℕ) (e e1 : List ℕ) (r : Reached) → v ≡ next → at < length W → length W ≤ length e → (d ≡ 0 → ⊥) → takes-by H own s (getD W at 0) ≡ Args n m →
-    Tolds W H own (at + 1) (d - 1) n m e e1 r → r ≡ Next next → Told W H own at d s e (set e1 at v) r
+    Tolds W H own (at + 1) (d - 1) n m e e1 r → r ≡ Next next → Told W H own at d s e (set e1 at v) (Next next)
 term-got W H own at d s n m next v e e1 r y h l z x p q =
-    record { told = λ w σ ys o g. subst (λ (k : ℕ). Said W at e (set e1 at k) (read-term (w .functions) (w .arguments) d σ ys) r) (sym y) (good W H own at d s n m next e e1 r w σ ys h l z x p q o g) }
+    subst (Told W H own at d s e (set e1 at v)) q
+    (record { told = λ w σ ys o g. subst (λ (k : ℕ). Said W at e (set e1 at k) (read-term (w .functions) (w .arguments) d σ ys) r) (sym y) (good W H own at d s n m next e e1 r w σ ys h l z x p q o g) })
 
-node-fault : (W e e1 : List ℕ) (at p v : ℕ) (r : Reached) (H : List Line) (y : Symbol) (R : Read Terms) → Saids W (at + 1) e e1 R r → r ≡ Fault v p → Said W at e e1 (with-arguments H y R) r
+node-fault : (W e e1 : List ℕ) (at p : ℕ) (v : Wrong) (r : Reached) (H : List Line) (y : Symbol) (R : Read Terms) → Saids W (at + 1) e e1 R r → r ≡ Fault v p → Said W at e e1 (with-arguments H y R) r
 unfolding Said Saids with-arguments
 node-fault W e e1 at p v r H y (fault w zs) x q = x
 node-fault W e e1 at p v r H y (got ts zs) x q = clash q (x .0)
 
-stop-take : (W e e1 : List ℕ) (at d n m p v : ℕ) (r : Reached) (H : List Line) (G : List Sort) (y : Symbol) (ys : List Symbol) (t : means.Takes) →
+stop-take : (W e e1 : List ℕ) (at d n m p : ℕ) (v : Wrong) (r : Reached) (H : List Line) (G : List Sort) (y : Symbol) (ys : List Symbol) (t : means.Takes) →
     shown-takes t ≡ Args n m → ((S : List Sort) → n ≡ length S → m ≡ mask S → Saids W (at + 1) e e1 (read-row (read-term H G d) S ys) r) → r ≡ Fault v p →
     Said W at e e1 (read-taken H y t (y ∷ ys) λ S. read-row (read-term H G d) S ys) r
 unfolding read-taken shown-takes
@@ -251,7 +232,7 @@ stop-take W e e1 at d n m p v r H G y ys (means.takes S q) x k z =
     node-fault W e e1 at p v r H y (read-row (read-term H G d) S ys) (k S a b) z
 stop-take W e e1 at d n m p v r H G y ys (means.cannot w) x k z = let o : _≡_ {A = ℕ} 0 1 = cc in absurd (omega arith)
 
-stops : (W H : List ℕ) (own at d s n m p v : ℕ) (e e1 : List ℕ) (r : Reached) (w : World H own) (σ : Sort) (ys : List Symbol) → at < length W → (d ≡ 0 → ⊥) → takes-by H own s (getD W at 0) ≡ Args n m →
+stops : (W H : List ℕ) (own at d s n m p : ℕ) (v : Wrong) (e e1 : List ℕ) (r : Reached) (w : World H own) (σ : Sort) (ys : List Symbol) → at < length W → (d ≡ 0 → ⊥) → takes-by H own s (getD W at 0) ≡ Args n m →
     Tolds W H own (at + 1) (d - 1) n m e e1 r → r ≡ Fault v p → s ≡ sort-number σ → Symbols W at ys → Said W at e e1 (read-term (w .functions) (w .arguments) d σ ys) r
 unfolding read-term
 stops W H own at d s n m p v e e1 r w σ [] h z x k q o g = absurd (some-there W at h (g .here))
@@ -260,9 +241,10 @@ stops W H own at (suc d) s n m p v e e1 r w σ (y ∷ ys) h z x k q o g =
     stop-take W e e1 at d n m p v r (w .functions) (w .arguments) y ys (if-sort σ (takes-of (w .functions) (w .arguments) σ y)) (asked W H own at s w σ y ys (Args n m) h o g x)
     (λ S a b. (simp sub-one at k) .tolds w S ys a b (symbols-next W at y ys h g)) q
 
-pub term-fault : (W H : List ℕ) (own at d s n m p v : ℕ) (e e1 : List ℕ) (r : Reached) → at < length W → (d ≡ 0 → ⊥) → takes-by H own s (getD W at 0) ≡ Args n m →
-    Tolds W H own (at + 1) (d - 1) n m e e1 r → r ≡ Fault v p → Told W H own at d s e e1 r
-term-fault W H own at d s n m p v e e1 r h z x k q = record { told = λ w σ ys o g. stops W H own at d s n m p v e e1 r w σ ys h z x k q o g }
+pub term-fault : (W H : List ℕ) (own at d s n m p : ℕ) (v : Wrong) (e e1 : List ℕ) (r : Reached) → at < length W → (d ≡ 0 → ⊥) → takes-by H own s (getD W at 0) ≡ Args n m →
+    Tolds W H own (at + 1) (d - 1) n m e e1 r → r ≡ Fault v p → Told W H own at d s e e1 (Fault v p)
+term-fault W H own at d s n m p v e e1 r h z x k q =
+    subst (Told W H own at d s e e1) q (record { told = λ w σ ys o g. stops W H own at d s n m p v e e1 r w σ ys h z x k q o g })
 
 -- Bodies.
 
@@ -270,85 +252,58 @@ over : (W : List ℕ) (at : ℕ) (t : Term) (ys zs : List Symbol) → Symbols W 
 over W at t ys zs h e =
     omega (arith, length-drop at W, ap length (h .here), length-map ys symbol-word, ap length e, length-append (term-symbols t) zs, symbol-count t, size-one t)
 
-whole-more : (W e e1 : List ℕ) (at n : ℕ) (r : Reached) (ys : List Symbol) (R : Read Term) → Symbols W at ys → Taken ys R → Said W at e e1 R r → r ≡ Next n → n < length W → Said W at e e1 (nothing-after R) (Fault (wrong-code means.left-over) n)
+whole-more : (W e e1 : List ℕ) (at n : ℕ) (r : Reached) (ys : List Symbol) (R : Read Term) → Symbols W at ys → Taken ys R → Said W at e e1 R r → r ≡ Next n → n < length W → Said W at e e1 (nothing-after R) (Fault LeftOver n)
 unfolding Said Taken nothing-after
 whole-more W e e1 at n r ys (fault w zs) h t x q l = clash x q
 whole-more W e e1 at n r ys (got u []) h t x q l = absurd (omega (arith, next-is (x .0) q, over W at u ys [] h t))
-whole-more W e e1 at n r ys (got u (z ∷ zs)) h t x q l = ap (Fault (wrong-code means.left-over)) (omega (arith, next-is (x .0) q, over W at u ys (z ∷ zs) h t))
+whole-more W e e1 at n r ys (got u (z ∷ zs)) h t x q l = ap (Fault LeftOver) (omega (arith, next-is (x .0) q, over W at u ys (z ∷ zs) h t))
 
-pub whole-left : (W H : List ℕ) (own at n : ℕ) (e e1 : List ℕ) (r r1 : Reached) → Told W H own at 32 (own / 16 % 2) e e1 r → r ≡ Next n → n < length W → r1 ≡ Fault (wrong-code means.left-over) n → Whole W H own at e e1 r1
-whole-left W H own at n e e1 r r1 x q l y =
-    record { whole = λ w σ ys o h. rw y (whole-more W e e1 at n r ys (read-term (w .functions) (w .arguments) most-depth σ ys) h (taken-term (w .functions) (w .arguments) most-depth σ ys) (x .told w σ ys o h) q l) }
-
-whole-end : (W e e1 : List ℕ) (at r : ℕ) (ys : List Symbol) (R : Read Term) → Symbols W at ys → Taken ys R → Said W at e e1 R (reached r) → length W ≤ r → Said W at e e1 (nothing-after R) (reached r)
+whole-same : (W e e1 : List ℕ) (at : ℕ) (r : Reached) (ys : List Symbol) (R : Read Term) → Symbols W at ys → Taken ys R → Said W at e e1 R r → ((n : ℕ) → r ≡ Next n → length W ≤ n) → Said W at e e1 (nothing-after R) r
 unfolding Said Taken nothing-after
-whole-end W e e1 at r ys (fault w zs) h t x l = x
-whole-end W e e1 at r ys (got u []) h t x l = x
-whole-end W e e1 at r ys (got u (z ∷ zs)) h t x l = absurd (omega (arith, only-next (at + size u) r (ltb r faults) refl (x .0), over W at u ys (z ∷ zs) h t))
+whole-same W e e1 at r ys (fault w zs) h t x l = x
+whole-same W e e1 at r ys (got u []) h t x l = x
+whole-same W e e1 at r ys (got u (z ∷ zs)) h t x l = absurd (omega (arith, l (at + size u) (x .0), over W at u ys (z ∷ zs) h t))
 
-pub whole-done : (W H : List ℕ) (own at r : ℕ) (e e1 : List ℕ) → Told W H own at 32 (own / 16 % 2) e e1 (reached r) → length W ≤ r → Whole W H own at e e1 (reached r)
-whole-done W H own at r e e1 x l =
-    record { whole = λ w σ ys o h. whole-end W e e1 at r ys (read-term (w .functions) (w .arguments) most-depth σ ys) h (taken-term (w .functions) (w .arguments) most-depth σ ys) (x .told w σ ys o h) l }
+-- A row of one.
+row-of-one : (W e e1 : List ℕ) (at : ℕ) (r : Reached) (one : Sort → List Symbol → Read Term) (R : Read Term) → Saids W at e e1 (then-more R (read-row one [])) r → Said W at e e1 R r
+unfolding Said Saids then-more read-row and-more sizes row-ends
+row-of-one W e e1 at r one (got t zs) x = (x .0 ∙ ap Next (omega arith), x .1 ∙ ap (splice e at) (append-nil (term-ends t at)))
+row-of-one W e e1 at r one (fault w zs) x = x
+
+module _ (W H : List ℕ) (own at : ℕ) (e e1 : List ℕ) (r : Reached) (x : Tolds W H own at 32 1 (own / 16 % 2) e e1 r) where
+  one-said : (w : World H own) (σ : Sort) (ys : List Symbol) → own / 16 % 2 ≡ sort-number σ → Symbols W at ys → Said W at e e1 (read-term (w .functions) (w .arguments) most-depth σ ys) r
+  unfolding mask read-row
+  one-said w σ ys o h =
+      row-of-one W e e1 at r (read-term (w .functions) (w .arguments) most-depth) (read-term (w .functions) (w .arguments) most-depth σ ys) (x .tolds w (σ ∷ []) ys refl (omega (arith, o)) h)
+
+  pub whole-left : (n : ℕ) → r ≡ Next n → n < length W → Whole W H own at e e1 (Fault LeftOver n)
+  whole-left n q l =
+      record { whole = λ w σ ys o h. whole-more W e e1 at n r ys (read-term (w .functions) (w .arguments) most-depth σ ys) h (taken-term (w .functions) (w .arguments) most-depth σ ys) (one-said w σ ys o h) q l }
+
+  whole-as : ((n : ℕ) → r ≡ Next n → length W ≤ n) → Whole W H own at e e1 r
+  whole-as l =
+      record { whole = λ w σ ys o h. whole-same W e e1 at r ys (read-term (w .functions) (w .arguments) most-depth σ ys) h (taken-term (w .functions) (w .arguments) most-depth σ ys) (one-said w σ ys o h) l }
+
+  pub whole-done : (n : ℕ) → r ≡ Next n → length W ≤ n → Whole W H own at e e1 (Next n)
+  whole-done n q l = subst (Whole W H own at e e1) q (whole-as λ m k. omega (arith, next-is q k, l))
+
+  pub whole-fault : (p : ℕ) (v : Wrong) → r ≡ Fault v p → Whole W H own at e e1 (Fault v p)
+  whole-fault p v q = subst (Whole W H own at e e1) q (whole-as λ m k. clash q k)
 
 -- Places.
+
+pub place-within : (n at p : ℕ) → p ≤ n → at ≤ p → Within n at (Next p)
+unfolding Within
+place-within n at p h l = (h, l)
+
+pub fault-within : (n at p : ℕ) (v : Wrong) → p ≤ n → Within n at (Fault v p)
+unfolding Within
+fault-within n at p v h = h
 
 pub within-next : (n at p : ℕ) (r : Reached) → Within n at r → r ≡ Next p → (p ≤ n) × (at ≤ p)
 unfolding Within
 within-next n at p r h e = subst (Within n at) e h
 
-pub place-within : (n at p : ℕ) (r : Reached) → r ≡ Next p → p ≤ n → at ≤ p → Within n at r
+pub within-fault : (n at a p : ℕ) (v : Wrong) (r : Reached) → Within n a r → r ≡ Fault v p → Within n at (Fault v p)
 unfolding Within
-place-within n at p r e h l = rw e (h, l)
-
-pub fault-within : (n at p v : ℕ) (r : Reached) → r ≡ Fault v p → p ≤ n → Within n at r
-unfolding Within
-fault-within n at p v r e h = rw e h
-
-pub within-more : (n at next : ℕ) (r : Reached) → at ≤ next → Within n next r → Within n at r
-unfolding Within
-within-more n at next (Next p) h x = (x .0, omega (arith, x .1))
-within-more n at next (Fault w p) h x = x
-
--- Codes that fit.
-
-Fits : Takes → Type 0
-Fits (Args n m) = Unit {0}
-Fits (Cannot w) = (0 < w) × (w < faults)
-
-either-fits : (b : Bool) (x y : Takes) → Fits x → Fits y → Fits (if b then x else y)
-either-fits true x y p q = p
-either-fits false x y p q = q
-
-code-fits : (w : means.Wrong) → Fits (Cannot (wrong-code w))
-unfolding Fits wrong-code
-code-fits means.unknown-symbol = (omega arith, omega arith)
-code-fits means.lacking-argument = (omega arith, omega arith)
-code-fits means.other-sort = (omega arith, omega arith)
-code-fits means.early-end = (omega arith, omega arith)
-code-fits means.left-over = (omega arith, omega arith)
-code-fits means.too-deep = (omega arith, omega arith)
-
-signed-fits : (s h : ℕ) → Fits (signed-by s h)
-unfolding signed-by Fits
-signed-fits s h = either-fits (eqb (h / 16 % 2) s) (Args (h % 16) (h / 32 % 256)) _ tt (code-fits means.other-sort)
-
-argument-fits : (own s i : ℕ) → Fits (argument-by own s i)
-unfolding argument-by Fits
-argument-fits own s i =
-    either-fits (ltb i (own % 16)) _ _ (either-fits (eqb (own / 32 % 256 / 2 ^ i % 2) s) (Args 0 0) _ tt (code-fits means.other-sort)) (code-fits means.lacking-argument)
-
-function-fits : (H : List ℕ) (s f : ℕ) → Fits (function-by H s f)
-unfolding function-by
-function-fits H s f = either-fits (ltb f (length H)) (signed-by s (getD H f 0)) _ (signed-fits s (getD H f 0)) (code-fits means.unknown-symbol)
-
-takes-fits : (H : List ℕ) (own s w : ℕ) → Fits (takes-by H own s w)
-unfolding takes-by Fits
-takes-fits H own s w =
-    either-fits (eqb w 0) _ _ (code-fits means.unknown-symbol)
-    (either-fits (ltb w 9) (argument-by own s (w - 1)) _ (argument-fits own s (w - 1))
-    (either-fits (eqb w 21) (Args 3 (1 + 6 * s)) _ tt
-    (either-fits (ltb w 32) (signed-by s (operation-by w)) _ (signed-fits s (operation-by w)) (function-fits H s (w - 32)))))
-
-pub coded : (H : List ℕ) (own s w k : ℕ) (t : Takes) → t ≡ takes-by H own s w → t ≡ Cannot k → (0 < k) × (k < faults)
-unfolding Fits
-coded H own s w k t p q = subst Fits (sym p ∙ q) (takes-fits H own s w)
+within-fault n at a p v r h e = subst (Within n a) e h

@@ -18,45 +18,27 @@ use Rattle.lines.specs.Lines.{line-signature}
 use Rattle.lines.specs.Splice.{splice}
 use Rattle.terms.specs.declared.Takes.{Takes}
 use Rattle.terms.specs.declared.Takes.the-variants.{Args, Cannot}
-
--- What is wrong, as a code.
-unfoldable pub wrong-code : means.Wrong → ℕ
-wrong-code means.unknown-symbol = 1
-wrong-code means.lacking-argument = 2
-wrong-code means.other-sort = 3
-wrong-code means.early-end = 4
-wrong-code means.left-over = 5
-wrong-code means.too-deep = 6
-
--- Where reading has come to: the place after a term, or what is wrong by its code and where.
-pub data Reached : Type 0 where
-  Next : ℕ → Reached
-  Fault : ℕ → ℕ → Reached
-
--- As one number: places stand below `faults`.
-abbrev pub faults : ℕ
-faults = 4096
-
-unfoldable pub reached : ℕ → Reached
-reached r = if ltb r faults then Next r else Fault (r / faults) (r % faults)
+use Rattle.terms.specs.declared.Reached.{Reached}
+use Rattle.terms.specs.declared.Reached.the-variants.{Next, Fault}
+use Rattle.meaning.specs.declared.Wrong.the-variants.{UnknownSymbol, LackingArgument, OtherSort}
 
 -- What the definition says that a symbol takes, in the code's case.
 unfoldable pub shown-takes : means.Takes → Takes
 shown-takes (means.takes S r) = Args (length S) (mask S)
-shown-takes (means.cannot w) = Cannot (wrong-code w)
+shown-takes (means.cannot w) = Cannot w
 
 -- What a symbol takes by its word, in a function that has the signature `own`, where the sort s is expected; the functions have the signatures H.
 unfoldable pub signed-by : ℕ → ℕ → Takes
-signed-by s h = if eqb (h / result-unit % 2) s then Args (h % result-unit) (h / sorts-unit % masks) else Cannot (wrong-code means.other-sort)
+signed-by s h = if eqb (h / result-unit % 2) s then Args (h % result-unit) (h / sorts-unit % masks) else Cannot OtherSort
 
 unfoldable pub argument-by : ℕ → ℕ → ℕ → Takes
 argument-by own s i =
     if ltb i (own % result-unit)
-    then (if eqb (own / sorts-unit % masks / 2 ^ i % 2) s then Args 0 0 else Cannot (wrong-code means.other-sort))
-    else Cannot (wrong-code means.lacking-argument)
+    then (if eqb (own / sorts-unit % masks / 2 ^ i % 2) s then Args 0 0 else Cannot OtherSort)
+    else Cannot LackingArgument
 
 unfoldable pub function-by : List ℕ → ℕ → ℕ → Takes
-function-by H s f = if ltb f (length H) then signed-by s (getD H f 0) else Cannot (wrong-code means.unknown-symbol)
+function-by H s f = if ltb f (length H) then signed-by s (getD H f 0) else Cannot UnknownSymbol
 
 -- The signature of a symbol below `cond`.
 unfoldable pub operation-by : ℕ → ℕ
@@ -76,7 +58,7 @@ operation-by w =
 unfoldable pub takes-by : List ℕ → ℕ → ℕ → ℕ → Takes
 takes-by H own s w =
     if eqb w 0
-    then Cannot (wrong-code means.unknown-symbol)
+    then Cannot UnknownSymbol
     else if ltb w number-word
     then argument-by own s (w - 1)
     else if eqb w cond-word
@@ -107,11 +89,11 @@ pub record Symbols (W : List ℕ) (at : ℕ) (ys : List Symbol) : Type 0 where
 -- What reading a term at `at` of the words W answers, and leaves in the table of ends.
 unfoldable pub Said : List ℕ → ℕ → List ℕ → List ℕ → Read Term → Reached → Type 0
 Said W at e e′ (got t ys) r = (r ≡ Next (at + size t)) × (e′ ≡ splice e at (term-ends t at))
-Said W at e e′ (fault w ys) r = r ≡ Fault (wrong-code w) (length W - length ys)
+Said W at e e′ (fault w ys) r = r ≡ Fault w (length W - length ys)
 
 unfoldable pub Saids : List ℕ → ℕ → List ℕ → List ℕ → Read Terms → Reached → Type 0
 Saids W at e e′ (got ts ys) r = (r ≡ Next (at + sizes ts)) × (e′ ≡ splice e at (row-ends ts at))
-Saids W at e e′ (fault w ys) r = r ≡ Fault (wrong-code w) (length W - length ys)
+Saids W at e e′ (fault w ys) r = r ≡ Fault w (length W - length ys)
 
 pub record Told (W H : List ℕ) (own at d s : ℕ) (e e′ : List ℕ) (r : Reached) : Type 0 where
   pub told : (w : World H own) (σ : Sort) (ys : List Symbol) → s ≡ sort-number σ → Symbols W at ys → Said W at e e′ (read-term (w .functions) (w .arguments) d σ ys) r
@@ -122,7 +104,7 @@ pub record Tolds (W H : List ℕ) (own at d n m : ℕ) (e e′ : List ℕ) (r : 
 pub record Whole (W H : List ℕ) (own at : ℕ) (e e′ : List ℕ) (r : Reached) : Type 0 where
   pub whole : (w : World H own) (σ : Sort) (ys : List Symbol) → own / result-unit % 2 ≡ sort-number σ → Symbols W at ys → Said W at e e′ (nothing-after (read-term (w .functions) (w .arguments) most-depth σ ys)) r
 
--- A place that was reached lies within n; one after a term lies after `at`.
+-- A place that was reached lies within n; one after what was read from `at` on.
 unfoldable pub Within : ℕ → ℕ → Reached → Type 0
 Within n at (Next p) = (p ≤ n) × (at ≤ p)
 Within n at (Fault w p) = p ≤ n

@@ -12,7 +12,8 @@ use Rattle.meaning.specs.Basics.{if_then_else_}
 use Rattle.meaning.specs.Arithmetic.{Sort, number, yes-no, constant, domain}
 use Rattle.meaning.specs.Numbers.{most-depth}
 use Rattle.meaning.specs.Text.{Verdict, fine, refused, _>>=_, _>>_, Field, value, judge-shape, Line, lines, judge-length, judge-counts, judge-names, same as same-field}
-use Rattle.meaning.specs.Terms.{Term, Terms, nil, cons, Function, Program, Symbol, argument, operation, condition, function, unknown, Word, vocabulary, is-decimal, named, spelt-in, symbol, Takes, takes, cannot, argument-takes, call-takes, takes-of, same-sort, if-sort, Read, got, fault, first-terms, other-terms, strict-of, condition-of, applied, with-arguments, and-more, then-more, read-row, read-taken, read-term, nothing-after, read-body, function-of, read-bodies, other-sort}
+use Rattle.meaning.specs.Terms.{Term, Terms, nil, cons, Function, Program, Symbol, argument, operation, condition, function, unknown, Word, vocabulary, is-decimal, named, spelt-in, symbol, Takes, takes, cannot, argument-takes, call-takes, takes-of, same-sort, if-sort, Read, got, fault, first-terms, other-terms, strict-of, condition-of, applied, with-arguments, and-more, then-more, read-row, read-taken, read-term, nothing-after, read-body, function-of, read-bodies}
+use Rattle.meaning.specs.declared.Wrong.the-variants.{OtherSort}
 use Rattle.meaning.specs.Check.{check}
 use Rattle.meaning.specs.Code.{own, initial}
 use Rattle.meaning.specs.Answers.{fits, all-fit, fitting}
@@ -91,7 +92,7 @@ unfolding if-sort
 if-sort-takes s (cannot w) e = clash (cc)
 if-sort-takes s (takes S′ r′) {S} {r} e = of (same-sort r′ s) refl e
   where
-    of : (b : Bool) → same-sort r′ s ≡ b → (if b then takes S′ r′ else cannot other-sort) ≡ takes S r → takes S′ r′ ≡ takes S s
+    of : (b : Bool) → same-sort r′ s ≡ b → (if b then takes S′ r′ else cannot OtherSort) ≡ takes S r → takes S′ r′ ≡ takes S s
     of true h k = let u : S′ ≡ S = cc in let w : r′ ≡ s = same-sort-same r′ s h in cc
     of false h k = clash (cc)
 

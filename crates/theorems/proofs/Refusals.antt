@@ -1,4 +1,4 @@
--- A text, arguments or memory are refused with one of the numbers 1 to 8; so an answer 0, 9, 10, 11 or 12 of Run comes from a run of an admitted text.
+-- A text, arguments or memory are refused with one of the numbers 1 to 8 or 13 to 15; so another answer of Run comes from a run of an admitted text.
 -- Assumes nothing.
 use mathlib.Core.Path.{_≡_, refl, ap, sym, _∙_, subst}
 use mathlib.Core.Logic.{_⊎_, inl, inr}
@@ -9,7 +9,7 @@ use native.Mathlib.Omega.{arith}
 use lib.Dec.{leb}
 use lib.ListN.{length, getD}
 use borrow.Author.Tests.{leb-true, le-leb}
-use Rattle.meaning.specs.Numbers.{Number, no, HALT, LONG, LINE, COUNT, NAME, TERM, NEST, ARGS, ROOM, FUEL, DEEP, STUCK, ZERO, instruction-words, work-words}
+use Rattle.meaning.specs.Numbers.{Number, no, HALT, LONG, LINE, COUNT, NAME, TERM, NEST, ARGS, ROOM, FUEL, DEEP, STUCK, ZERO, UNKNOWN, SORT, SHORT, instruction-words, work-words}
 use Rattle.meaning.specs.Text.{Verdict, fine, refused, _>>=_, _>>_}
 use Rattle.meaning.specs.Terms.{Program}
 use Rattle.meaning.specs.Check.{check}
@@ -17,7 +17,7 @@ use Rattle.meaning.specs.Code.{translation}
 use Rattle.meaning.specs.Machine.{Ending, ended, run-program}
 use Rattle.meaning.specs.Answers.{judge-room, judge-arguments, fitting, code-fits, admit-run, ran, answered, run-answer}
 use Rattle.meaning.specs.declared.Answer.{Answer}
-use Rattle.accepted.proofs.Refused.{proper, bind-proper, then-proper, check-proper}
+use Rattle.accepted.proofs.Refused.{Refuses, proper, bind-proper, then-proper, check-proper}
 use Rattle.theorems.specs.Outcomes.{Admitted}
 use Rattle.theorems.proofs.Splitting.{clash}
 use Rattle.accepted.proofs.Lines.{both}
@@ -25,14 +25,14 @@ use Rattle.accepted.proofs.Accepted.{fine-bind, fine-same}
 use Rattle.theorems.proofs.Acceptance.{both-fine}
 
 arguments-proper : (b : Bool) → proper (judge-arguments b)
-unfolding judge-arguments proper no
+unfolding judge-arguments proper no Refuses
 arguments-proper true = tt
-arguments-proper false = omega arith
+arguments-proper false = inl (omega arith)
 
 room-proper : (b : Bool) → proper (judge-room b)
-unfolding judge-room proper no
+unfolding judge-room proper no Refuses
 room-proper true = tt
-room-proper false = omega arith
+room-proper false = inl (omega arith)
 
 run-proper : (text args : List ℕ) (code work : ℕ) → proper (admit-run text args code work)
 unfolding admit-run proper
@@ -90,7 +90,7 @@ admitted-answer {text} {args} {code} {work} limit {n} {v} {s} {r} A e =
 -- The number names the ending.
 
 numbers : List Number
-numbers = HALT ∷ LONG ∷ LINE ∷ COUNT ∷ NAME ∷ TERM ∷ NEST ∷ ARGS ∷ ROOM ∷ FUEL ∷ DEEP ∷ STUCK ∷ ZERO ∷ []
+numbers = HALT ∷ LONG ∷ LINE ∷ COUNT ∷ NAME ∷ TERM ∷ NEST ∷ ARGS ∷ ROOM ∷ FUEL ∷ DEEP ∷ STUCK ∷ ZERO ∷ UNKNOWN ∷ SORT ∷ SHORT ∷ []
 
 numbered : (n : Number) → getD numbers (no n) HALT ≡ n
 unfolding numbers no
@@ -107,6 +107,9 @@ numbered FUEL = refl
 numbered DEEP = refl
 numbered STUCK = refl
 numbered ZERO = refl
+numbered UNKNOWN = refl
+numbered SORT = refl
+numbered SHORT = refl
 
 number-once : (n m : Number) → no n ≡ no m → n ≡ m
 number-once n m e = sym (numbered n) ∙ ap (λ k. getD numbers k HALT) e ∙ numbered m
@@ -115,19 +118,21 @@ ended-so : (x : Ending) (n : Number) → ran x .number ≡ no n → x ≡ ended 
 unfolding ran
 ended-so (ended m v s r) n e = ap (λ k. ended k v s r) (number-once m n e)
 
--- An answer whose number is none of 1 to 8 comes from a run.
-pub answer-runs : (text args : List ℕ) (limit code work : ℕ) (n : Number) → (no n < 1) ⊎ (8 < no n)
+-- An answer whose number is none of those comes from a run.
+pub answer-runs : (text args : List ℕ) (limit code work : ℕ) (n : Number) → (no n < 1) ⊎ ((8 < no n) × (no n < 13))
     → run-answer text args limit code work .number ≡ no n
     → (P : Program) × Admitted text args code work P
     × (run-program P args limit ≡ ended n (run-answer text args limit code work .value) (run-answer text args limit code work .steps) (run-answer text args limit code work .rewrites))
-unfolding run-answer answered proper
+unfolding run-answer answered proper Refuses
 answer-runs text args limit code work n l e = of (admit-run text args code work) refl (run-proper text args code work) e
   where
     of : (x : Verdict Program) → admit-run text args code work ≡ x → proper x → answered x args limit .number ≡ no n
         → (P : Program) × Admitted text args code work P × (run-program P args limit ≡ ended n (answered x args limit .value) (answered x args limit .steps) (answered x args limit .rewrites))
     of (fine P) h p k = (P, admitted-of text args code work h, ended-so (run-program P args limit) n k)
-    of (refused m i j) h p k = absurd (out-of l (p .0) (p .1) k)
+    of (refused m i j) h p k = absurd (out-of l p k)
       where
-        out-of : {a b : ℕ} → (b < 1) ⊎ (8 < b) → 1 ≤ a → a ≤ 8 → a ≡ b → ⊥
-        out-of (inl h) u v w = omega arith
-        out-of (inr h) u v w = omega arith
+        out-of : {a b : ℕ} → (b < 1) ⊎ ((8 < b) × (b < 13)) → ((1 ≤ a) × (a ≤ 8)) ⊎ ((13 ≤ a) × (a ≤ 15)) → a ≡ b → ⊥
+        out-of (inl h) (inl u) w = omega arith
+        out-of (inl h) (inr u) w = omega arith
+        out-of (inr h) (inl u) w = omega arith
+        out-of (inr h) (inr u) w = omega arith

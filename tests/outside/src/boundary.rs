@@ -43,10 +43,15 @@ pub const FUEL: u32 = 9;
 pub const DEEP: u32 = 10;
 pub const STUCK: u32 = 11;
 pub const ZERO: u32 = 12;
+pub const UNKNOWN: u32 = 13;
+pub const SORT: u32 = 14;
+pub const SHORT: u32 = 15;
 
-pub const NUMBERS: usize = 13;
-pub const NUMBER_NAMES: [&str; NUMBERS] =
-    ["HALT", "LONG", "LINE", "COUNT", "NAME", "TERM", "NEST", "ARGS", "ROOM", "FUEL", "DEEP", "STUCK", "ZERO"];
+pub const NUMBERS: usize = 16;
+pub const NUMBER_NAMES: [&str; NUMBERS] = [
+    "HALT", "LONG", "LINE", "COUNT", "NAME", "TERM", "NEST", "ARGS", "ROOM", "FUEL", "DEEP", "STUCK", "ZERO", "UNKNOWN", "SORT",
+    "SHORT",
+];
 
 /// Words of one instruction, work words of a run, and the most code words that an accepted text needs.
 pub const INSTRUCTION_WORDS: usize = 12;

@@ -279,7 +279,7 @@ fn long(dice: &mut Dice) -> Draft {
 }
 
 /// Texts at an edge of the document, one after the other; blanks for tabs, `;` for byte 10.
-const EDGES: [&str; 70] = [
+const EDGES: [&str; 80] = [
     "",
     ";",
     ";;",
@@ -350,6 +350,16 @@ const EDGES: [&str; 70] = [
     "X 0 n N a;",
     "X  n n a;",
     "X 0 n n a ;",
+    "X 0 n n a zz;",
+    "X 0 n n a 4294967296;",
+    "X 0 n n zz zz;",
+    "X 0 n n +;",
+    "X 0 n n + a zz;",
+    "X 0 n n + i 1;",
+    "X 0 n n X;",
+    "X 0 n n Y;",
+    "X 0 b n + a 1;",
+    "X 0 n b cond 1 true;",
 ];
 
 fn edges(dice: &mut Dice) -> Draft {

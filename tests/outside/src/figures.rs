@@ -1,4 +1,4 @@
-//! The figures of document 01, as request b leaves them, and example 73 of document 000, held against the engine and against
+//! The figures of document 01, as requests b and c leave them, and example 73 of document 000, held against the engine and against
 //! the plain reading of the documents.
 
 use crate::boundary::{engine, Answer, Checked, Head, MOST_CODE_WORDS, MOST_HEADS, WORK_WORDS};
@@ -33,16 +33,24 @@ const RUNS: [RunFigure; 13] = [
 ];
 
 /// Text; number, line, field.
-const CHECKS: [(&str, [u32; 3]); 9] = [
+const CHECKS: [(&str, [u32; 3]); 16] = [
     ("", [2, 1, 1]),
     ("ID 1 n n a", [2, 1, 0]),
     ("X 2 n n a;", [2, 1, 3]),
-    ("X 0 n n b;", [5, 1, 5]),
-    ("X 0 n n + a;", [5, 1, 7]),
+    ("X 0 n n b;", [13, 1, 5]),
+    ("X 0 n n + a;", [15, 1, 7]),
     ("X 0 n n a a;", [5, 1, 6]),
-    ("X 0 n b a;", [5, 1, 5]),
-    ("X 0 n n 4294967296;", [5, 1, 5]),
+    ("X 0 n b a;", [14, 1, 5]),
+    ("X 0 n n 4294967296;", [13, 1, 5]),
     ("X 0 n n 4294967295;", [0, 0, 0]),
+    // A field left over is 5, known or not; an argument that is there and has the other sort is 14, one that is not is 13.
+    ("X 0 n n a zz;", [5, 1, 6]),
+    ("X 0 n n a 4294967296;", [5, 1, 6]),
+    ("X 0 b n + a 1;", [14, 1, 6]),
+    ("X 0 b n + b 1;", [13, 1, 6]),
+    ("X 0 n n Y a;", [13, 1, 5]),
+    ("X 0 n n X;", [15, 1, 6]),
+    ("X 0 n n a;Y 0 n n true;Z 0 n n zz;", [14, 2, 5]),
 ];
 
 /// What does not come out as the documents say; and how many figures were tried.
@@ -56,8 +64,8 @@ pub fn hold() -> (usize, Vec<String>) {
             failures.push(format!("{text} {args:?} {limit}: expected {figure:?}, documents and engine give {answers:?}"));
         }
     }
-    let not_chains =
-        [(format!("X 0 n b{} true;", " !".repeat(31)), [0, 0, 0]), (format!("X 0 n b{} true;", " !".repeat(32)), [6, 1, 37])];
+    let not_chains = [(31, " true", [0, 0, 0]), (32, " true", [6, 1, 37]), (32, " zz", [6, 1, 37]), (32, "", [15, 1, 37])]
+        .map(|(count, end, figure)| (format!("X 0 n b{}{end};", " !".repeat(count)), figure));
     let checks = CHECKS.iter().map(|(text, figure)| (text.to_string(), *figure)).chain(not_chains);
     for (text, figure) in checks {
         tried += 1;

@@ -1,7 +1,8 @@
 -- `bodies::fill` meets its contract. Assumes nothing.
-use lib.ListN.{length-set}
 use native.Mathlib.Omega.{arith}
 use mathlib.Core.Path.{_≡_, refl, ap, _∙_}
+use Prim.Native.Nat.{_+_, _-_}
+use lib.ListN.{length, drop}
 use Rattle.fields.proofs.Laws as fields-laws
 use Rattle.fields.specs.Fields.{rest}
 use Rattle.lines.proofs.Splice as splices
@@ -9,8 +10,6 @@ use Rattle.lines.specs.Splice.{splice}
 use Rattle.bodies.specs.Bodies.{words-by, values-by}
 use Rattle.bodies.proofs.Laws as laws
 use borrow.Author.Needs.{needs}
-use Prim.Native.Nat.{_+_, _-_}
-use lib.ListN.{length, drop}
 use Rattle.bodies.proofs.fill.Statement.{statement}
 use Rattle.bodies.proofs.fill.Tie as tie
 
@@ -41,39 +40,34 @@ part-symbol-of-end c = search needs
 symbol-of-requires : tie.Need-symbol-of-requires Inv-loop μ-loop
 symbol-of-requires c κs = search needs
 
-word-requires : tie.Need-word-requires Inv-loop μ-loop
-word-requires c κs = search needs
-
-mul-words : tie.Need-mul-words Inv-loop μ-loop
-mul-words c = search needs
-
-slice-write-words : tie.Need-slice-write-words Inv-loop μ-loop
-slice-write-words c = omega (arith, c .before .before .before .before .before .loop .inv .0, c .before .before .before .before .before .loop .inv .1, c .before .before .before .before .before .before .before .before .before .before .pre .1 .0, laws.one-field (c .before .before .before .before .before .before .before .before .before .before .args .names .now) (c .before .before .before .before .before .before .before .before .before .before .args .line .now) (c .before .before .before .before .before .loop .i) _ (c .before .before .before .before .loop-test .taken) (c .before .before .before .piece-end .ensures .0))
-
-value-requires : tie.Need-value-requires Inv-loop μ-loop
-value-requires c κs = search needs
-
-mul-values : tie.Need-mul-values Inv-loop μ-loop
-mul-values c = search needs
-
-slice-write-values : tie.Need-slice-write-values Inv-loop μ-loop
-slice-write-values c = omega (arith, c .before .before .before .before .before .before .loop .inv .0, c .before .before .before .before .before .before .loop .inv .2, c .before .before .before .before .before .before .before .before .before .before .before .pre .1 .1, laws.one-field (c .before .before .before .before .before .before .before .before .before .before .before .args .names .now) (c .before .before .before .before .before .before .before .before .before .before .before .args .line .now) (c .before .before .before .before .before .before .loop .i) _ (c .before .before .before .before .before .loop-test .taken) (c .before .before .before .before .piece-end .ensures .0))
+put-requires : tie.Need-put-requires Inv-loop μ-loop
+put-requires c κs =
+    let s = c .before .before .before .before .before .before .before .before .before .before .before in
+    let l = c .before .before .before .before .before .before .loop in
+    let x = laws.one-field (s .args .names .now) (s .args .line .now) (l .i) _ (c .before .before .before .before .before .loop-test .taken) (c .before .before .before .before .piece-end .ensures .0) in
+    (omega (arith, x, l .inv .0, l .inv .1, s .pre .1 .0), omega (arith, x, l .inv .0, l .inv .2, s .pre .1 .1))
 
 add-j : tie.Need-add-j Inv-loop μ-loop
-add-j c = omega (arith, c .before .before .before .before .before .before .loop .inv .0, c .before .before .before .before .before .before .loop .inv .1, c .before .before .before .before .before .before .before .before .before .before .before .pre .1 .0, laws.one-field (c .before .before .before .before .before .before .before .before .before .before .before .args .names .now) (c .before .before .before .before .before .before .before .before .before .before .before .args .line .now) (c .before .before .before .before .before .before .loop .i) _ (c .before .before .before .before .before .loop-test .taken) (c .before .before .before .before .piece-end .ensures .0))
+add-j c =
+    let s = c .before .before .before .before .before .before .before .before .before .before .before .before .before .before .before .before in
+    let l = c .before .before .before .before .before .before .before .before .before .before .before .loop in
+    omega (arith, laws.one-field (s .args .names .now) (s .args .line .now) (l .i) _ (c .before .before .before .before .before .before .before .before .before .before .loop-test .taken) (c .before .before .before .before .before .before .before .before .before .piece-end .ensures .0), l .inv .0, l .inv .1, s .pre .1 .0)
 
 loop-less : tie.Need-loop-less Inv-loop μ-loop
 loop-less c = search needs
 
 loop-again : tie.Need-loop-again Inv-loop μ-loop
 loop-again c =
-    let l = c .before .before .before .before .before .before .loop in
-    let x = laws.one-field (c .before .before .before .before .before .before .before .before .before .before .before .args .names .now) (c .before .before .before .before .before .before .before .before .before .before .before .args .line .now) (c .before .before .before .before .before .before .loop .i) _ (c .before .before .before .before .before .loop-test .taken) (c .before .before .before .before .piece-end .ensures .0) in (
+    let s = c .before .before .before .before .before .before .before .before .before .before .before .before .before .before .before .before in
+    let l = c .before .before .before .before .before .before .before .before .before .before .before .loop in
+    let x = laws.one-field (s .args .names .now) (s .args .line .now) (l .i) _ (c .before .before .before .before .before .before .before .before .before .before .loop-test .taken) (c .before .before .before .before .before .before .before .before .before .piece-end .ensures .0) in
+    let w = laws.word-is _ _ _ _ (c .before .before .before .before .before .before .before .symbol-of .ensures .0) refl in
+    let v = laws.value-is _ _ _ _ (c .before .before .before .before .before .before .before .symbol-of .ensures .0) refl in (
       omega (arith, x, l .inv .0),
-      simp length-set (l .inv .1),
-      simp length-set (l .inv .2),
-      splices.write-on (l .words) (l .j) _ _ _ _ (omega (arith, x, l .inv .0, l .inv .1, c .before .before .before .before .before .before .before .before .before .before .before .pre .1 .0)) (laws.word-is _ _ _ _ (c .before .before .symbol-of .ensures .0) (c .before .before .before .before .before .before .before .before .before .before .before .pre .0) (c .before .word .ensures)) (laws.one-word (c .before .before .before .before .before .before .before .before .before .before .before .args .names .now) (c .before .before .before .before .before .before .before .before .before .before .before .args .line .now) (c .before .before .before .before .before .before .loop .i) _ (c .before .before .before .before .before .loop-test .taken) (c .before .before .before .before .piece-end .ensures .0)) ∙ l .inv .3,
-      splices.write-on (l .values) (l .j) _ _ _ _ (omega (arith, x, l .inv .0, l .inv .2, c .before .before .before .before .before .before .before .before .before .before .before .pre .1 .1)) (laws.value-is _ _ _ _ (c .before .before .symbol-of .ensures .0) (c .before .before .before .before .before .before .before .before .before .before .before .pre .0) (c .value .ensures)) (laws.one-value (c .before .before .before .before .before .before .before .before .before .before .before .args .names .now) (c .before .before .before .before .before .before .before .before .before .before .before .args .line .now) (c .before .before .before .before .before .before .loop .i) _ (c .before .before .before .before .before .loop-test .taken) (c .before .before .before .before .piece-end .ensures .0)) ∙ l .inv .4,
+      c .before .before .before .words .given ∙ l .inv .1,
+      c .before .values .given ∙ l .inv .2,
+      laws.put-on (l .words) _ (l .j) _ _ _ _ (c .before .before .before .before .put .ensures .0) (omega (arith, x, l .inv .0, l .inv .1, s .pre .1 .0)) w (laws.one-word (s .args .names .now) (s .args .line .now) (l .i) _ (c .before .before .before .before .before .before .before .before .before .before .loop-test .taken) (c .before .before .before .before .before .before .before .before .before .piece-end .ensures .0)) ∙ l .inv .3,
+      laws.put-on (l .values) _ (l .j) _ _ _ _ (c .before .before .before .before .put .ensures .1) (omega (arith, x, l .inv .0, l .inv .2, s .pre .1 .1)) v (laws.one-value (s .args .names .now) (s .args .line .now) (l .i) _ (c .before .before .before .before .before .before .before .before .before .before .loop-test .taken) (c .before .before .before .before .before .before .before .before .before .piece-end .ensures .0)) ∙ l .inv .4,
     )
 
 same-length : tie.Need-same-length Inv-loop μ-loop
@@ -85,8 +79,9 @@ same-length-2 c = search needs
 returns : tie.Need-returns Inv-loop μ-loop
 returns c =
     let l = c .before .loop in
-    let x = fields-laws.no-piece 9 (c .before .before .before .before .before .before .args .line .now) (l .i) (c .loop-test .left) in
-    (omega (arith, ap length x, l .inv .0), (splices.write-done (l .words) (l .j) _ (laws.no-words (c .before .before .before .before .before .before .args .names .now) _ x) ∙ l .inv .3, splices.write-done (l .values) (l .j) _ (laws.no-values (c .before .before .before .before .before .before .args .names .now) _ x) ∙ l .inv .4))
+    let s = c .before .before .before .before .before .before in
+    let x = fields-laws.no-piece 9 (s .args .line .now) (l .i) (c .loop-test .left) in
+    (omega (arith, ap length x, l .inv .0), (splices.write-done (l .words) (l .j) _ (laws.no-words (s .args .names .now) _ x) ∙ l .inv .3, splices.write-done (l .values) (l .j) _ (laws.no-values (s .args .names .now) _ x) ∙ l .inv .4))
 
 pub fill-spec : {M : Type 1} → statement M
 fill-spec =
@@ -101,12 +96,7 @@ fill-spec =
     part-symbol-of-start
     part-symbol-of-end
     symbol-of-requires
-    word-requires
-    mul-words
-    slice-write-words
-    value-requires
-    mul-values
-    slice-write-values
+    put-requires
     add-j
     loop-less
     loop-again

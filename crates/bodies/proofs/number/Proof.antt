@@ -1,18 +1,65 @@
 -- `bodies::number` meets its contract. Assumes nothing.
-use borrow.Author.Tests.{eq-eqb, ne-eqb}
 use Rattle.meaning.specs.Numbers.{no}
-use Rattle.terms.specs.Terms.{wrong-code}
-use Rattle.bodies.specs.Bodies.{number-of}
+use Rattle.meaning.specs.Terms.{wrong-number}
+use borrow.Author.Needs.{needs}
 use Rattle.bodies.proofs.number.Statement.{statement}
 use Rattle.bodies.proofs.number.Tie as tie
 
+enum-told : tie.Need-enum-told
+enum-told c = search needs
+
+enum-told-2 : tie.Need-enum-told-2
+enum-told-2 c = search needs
+
+enum-told-3 : tie.Need-enum-told-3
+enum-told-3 c = search needs
+
+enum-told-4 : tie.Need-enum-told-4
+enum-told-4 c = search needs
+
+enum-told-5 : tie.Need-enum-told-5
+enum-told-5 c = search needs
+
+enum-told-6 : tie.Need-enum-told-6
+enum-told-6 c = search needs
+
 returns : tie.Need-returns
-unfolding number-of wrong-code no
-returns c = simp (eq-eqb _ _ (c .if1 .taken))
+unfolding wrong-number no
+returns c = simp (c .enum-told .given .1)
 
 returns-2 : tie.Need-returns-2
-unfolding number-of wrong-code no
-returns-2 c = simp (ne-eqb _ _ (c .if1 .left))
+unfolding wrong-number no
+returns-2 c = simp (c .enum-told2 .given .1)
+
+returns-3 : tie.Need-returns-3
+unfolding wrong-number no
+returns-3 c = simp (c .enum-told3 .given .1)
+
+returns-4 : tie.Need-returns-4
+unfolding wrong-number no
+returns-4 c = simp (c .enum-told4 .given .1)
+
+returns-5 : tie.Need-returns-5
+unfolding wrong-number no
+returns-5 c = simp (c .enum-told5 .given .1)
+
+returns-6 : tie.Need-returns-6
+unfolding wrong-number no
+returns-6 c = simp (c .enum-told6 .given .1)
 
 pub number-spec : {M : Type 1} → statement M
-number-spec = tie.close (tie.spec returns returns-2)
+number-spec =
+    tie.close
+    (tie.spec
+    enum-told
+    enum-told-2
+    enum-told-3
+    enum-told-4
+    enum-told-5
+    enum-told-6
+    returns
+    returns-2
+    returns-3
+    returns-4
+    returns-5
+    returns-6)

@@ -21,7 +21,10 @@ part-read-body-end : tie.Need-part-read-body-end
 part-read-body-end c = omega (arith, c .before .before .before .before .before .fill .ensures .0, laws.body-count (c .before .before .before .before .before .before .before .before .before .before .before .before .before .before .before .args .line .now) _ _ _ _ (c .before .before .before .before .before .before .before .before .tabs-of .ensures), c .before .before .before .before .before .before .before .before .before .before .before .before .before .before .before .pre .1 .0)
 
 read-body-requires : tie.Need-read-body-requires
-read-body-requires c κs = (omega (arith, laws.table-end (c .before .before .before .before .before .before .before .before .before .before .before .before .before .before .before .before .before .args .line .now) (c .before .before .before .before .before .before .before .before .before .before .before .before .before .before .before .before .before .args .names .now) (c .before .before .before .before .before .before .before .before .before .before .before .before .before .before .before .before .before .args .from) _ (c .before .before .before .before .before .before .before .before .before .before .before .before .before .before .before .before .before .args .words .now) _ _ _ _ _ (c .before .before .before .before .before .before .before .before .before .before .tabs-of .ensures) (c .before .before .before .before .before .before .before .fill .ensures .0) (c .before .before .before .before .before .before .before .fill .ensures .1 .0) (c .before .before .before .before .before .before .before .before .before .before .before .before .before .before .before .before .before .pre .1 .0), c .before .before .before .before .before .before .before .before .before .before .before .before .before .before .before .before .before .pre .1 .2), omega (arith, laws.table-end (c .before .before .before .before .before .before .before .before .before .before .before .before .before .before .before .before .before .args .line .now) (c .before .before .before .before .before .before .before .before .before .before .before .before .before .before .before .before .before .args .names .now) (c .before .before .before .before .before .before .before .before .before .before .before .before .before .before .before .before .before .args .from) _ (c .before .before .before .before .before .before .before .before .before .before .before .before .before .before .before .before .before .args .words .now) _ _ _ _ _ (c .before .before .before .before .before .before .before .before .before .before .tabs-of .ensures) (c .before .before .before .before .before .before .before .fill .ensures .0) (c .before .before .before .before .before .before .before .fill .ensures .1 .0) (c .before .before .before .before .before .before .before .before .before .before .before .before .before .before .before .before .before .pre .1 .0), c .before .before .before .before .before .before .before .before .before .before .before .before .before .before .before .before .before .pre .1 .3))
+read-body-requires c κs =
+    let s = c .before .before .before .before .before .before .before .before .before .before .before .before .before .before .before .before .before in
+    let k = laws.table-end (s .args .line .now) (s .args .names .now) (s .args .from) _ (s .args .words .now) _ _ _ _ _ (c .before .before .before .before .before .before .before .before .before .before .tabs-of .ensures) (c .before .before .before .before .before .before .before .fill .ensures .0) (c .before .before .before .before .before .before .before .fill .ensures .1 .0) (s .pre .1 .0) in
+    (omega (arith, k, s .pre .1 .2), omega (arith, k, s .pre .1 .3), omega (arith, k))
 
 same-length : tie.Need-same-length
 same-length c = search needs

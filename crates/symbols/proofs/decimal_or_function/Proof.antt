@@ -1,6 +1,6 @@
 -- `symbols::decimal_or_function` meets its contract. Assumes nothing.
 use mathlib.Core.Path.{ap, _∙_}
-use Rattle.symbols.specs.Symbols.{joined}
+use Rattle.symbols.specs.Symbols.{recognised}
 use Rattle.symbols.proofs.Laws as laws
 use borrow.Author.Needs.{needs}
 use Rattle.symbols.proofs.decimal_or_function.Statement.{statement}
@@ -18,23 +18,13 @@ function-of-requires c κs = search needs
 enum-known-v : tie.Need-enum-known-v
 enum-known-v c = search needs
 
-join-requires : tie.Need-join-requires
-join-requires c κs = search needs
-
 returns : tie.Need-returns
-returns c = c .function-of .ensures ∙ ap joined (laws.decimal-not _ _ _ (c .before .before .before .decimal-value .ensures) (c .before .enum-told .given .1))
+returns c = c .function-of .ensures ∙ ap recognised (laws.decimal-not _ _ _ (c .before .before .before .decimal-value .ensures) (c .before .enum-told .given .1))
 
 returns-2 : tie.Need-returns-2
-returns-2 c = c .join .ensures ∙ laws.decimal-is _ _ _ _ (c .before .before .before .before .decimal-value .ensures) (c .before .before .v .given .1)
+returns-2 c = laws.decimal-is _ _ _ _ (c .before .before .before .decimal-value .ensures) (c .before .v .given .1)
 
 pub decimal-or-function-spec : {M : Type 1} → statement M
 decimal-or-function-spec =
     tie.close
-    (tie.spec
-    decimal-value-requires
-    enum-told
-    function-of-requires
-    enum-known-v
-    join-requires
-    returns
-    returns-2)
+    (tie.spec decimal-value-requires enum-told function-of-requires enum-known-v returns returns-2)

@@ -4,7 +4,7 @@ use mathlib.Core.Path.{_≡_, ap, _∙_}
 use Prim.Native.Nat.{_-_}
 use lib.ListN.{length, drop}
 use Rattle.table.specs.Table.{symbol-word, symbol-value}
-use Rattle.symbols.specs.Symbols.{joined, named-as}
+use Rattle.symbols.specs.Symbols.{known, recognised, named-as}
 use Rattle.symbols.proofs.Laws as laws
 use borrow.Author.Needs.{needs}
 use Rattle.symbols.proofs.function_of.Statement.{statement}
@@ -25,18 +25,15 @@ mul-if1 c = search needs
 shared-slice-read-if1 : tie.Need-shared-slice-read-if1 Inv-loop μ-loop
 shared-slice-read-if1 c = search needs
 
-cast-join : tie.Need-cast-join Inv-loop μ-loop
-cast-join c = search needs
+cast-t8 : tie.Need-cast-t8 Inv-loop μ-loop
+cast-t8 c = search needs
 
-add-join : tie.Need-add-join Inv-loop μ-loop
-add-join c = search needs
-
-join-requires : tie.Need-join-requires Inv-loop μ-loop
-join-requires c κs = search needs
+add-t9 : tie.Need-add-t9 Inv-loop μ-loop
+add-t9 c = search needs
 
 returns : tie.Need-returns Inv-loop μ-loop
-unfolding joined symbol-word symbol-value
-returns c = c .join .ensures ∙ ap joined (laws.named-here (c .before .before .before .before .before .before .args .names .now) (c .before .before .before .before .loop .i) (c .before .before .before .before .before .before .args .name) (omega arith) (c .before .if1 .taken) ∙ c .before .before .before .before .loop .inv)
+unfolding recognised known symbol-word symbol-value
+returns c = ap recognised (laws.named-here (c .before .before .before .before .args .names .now) (c .before .before .before .loop .i) (c .before .before .before .before .args .name) (omega arith) (c .if1 .taken) ∙ c .before .before .before .loop .inv)
 
 add-i : tie.Need-add-i Inv-loop μ-loop
 add-i c = search needs
@@ -45,11 +42,11 @@ loop-less : tie.Need-loop-less Inv-loop μ-loop
 loop-less c = search needs
 
 loop-again : tie.Need-loop-again Inv-loop μ-loop
-loop-again c = laws.named-on (c .before .before .before .before .before .args .names .now) (c .before .before .before .loop .i) (c .before .before .before .before .before .args .name) (omega arith) (c .if1 .left) ∙ c .before .before .before .loop .inv
+loop-again c = laws.named-on (c .before .before .before .before .args .names .now) (c .before .before .before .loop .i) (c .before .before .before .before .args .name) (omega arith) (c .if1 .left) ∙ c .before .before .before .loop .inv
 
 returns-2 : tie.Need-returns-2 Inv-loop μ-loop
-unfolding joined symbol-word symbol-value
-returns-2 c = ap joined (laws.named-end (c .before .before .before .args .names .now) (c .before .loop .i) (c .before .before .before .args .name) (omega arith) ∙ c .before .loop .inv)
+unfolding recognised
+returns-2 c = ap recognised (laws.named-end (c .before .before .args .names .now) (c .before .loop .i) (c .before .before .args .name) (omega arith) ∙ c .before .loop .inv)
 
 pub function-of-spec : {M : Type 1} → statement M
 function-of-spec =
@@ -60,9 +57,8 @@ function-of-spec =
     loop-holds
     mul-if1
     shared-slice-read-if1
-    cast-join
-    add-join
-    join-requires
+    cast-t8
+    add-t9
     returns
     add-i
     loop-less

@@ -1,8 +1,7 @@
 -- `symbols::long_decimal` meets its contract. Assumes nothing.
-use mathlib.Core.Path.{ap, _∙_}
+use mathlib.Core.Path.{ap}
 use Rattle.meaning.specs.Terms.{unknown}
-use Rattle.table.specs.Table.{symbol-word, symbol-value}
-use Rattle.symbols.specs.Symbols.{joined}
+use Rattle.symbols.specs.Symbols.{recognised}
 use Rattle.symbols.proofs.Laws as laws
 use borrow.Author.Needs.{needs}
 use Rattle.symbols.proofs.long_decimal.Statement.{statement}
@@ -17,17 +16,13 @@ enum-told c = search needs
 enum-known-v : tie.Need-enum-known-v
 enum-known-v c = search needs
 
-join-requires : tie.Need-join-requires
-join-requires c κs = search needs
-
 returns : tie.Need-returns
-unfolding joined symbol-word symbol-value
-returns c = ap joined (laws.decimal-not _ _ unknown (c .before .before .decimal-value .ensures) (c .enum-told .given .1))
+unfolding recognised
+returns c = ap recognised (laws.decimal-not _ _ unknown (c .before .before .decimal-value .ensures) (c .enum-told .given .1))
 
 returns-2 : tie.Need-returns-2
-returns-2 c = c .join .ensures ∙ laws.decimal-is _ _ _ unknown (c .before .before .before .before .decimal-value .ensures) (c .before .before .v .given .1)
+returns-2 c = laws.decimal-is _ _ _ unknown (c .before .before .before .decimal-value .ensures) (c .before .v .given .1)
 
 pub long-decimal-spec : {M : Type 1} → statement M
 long-decimal-spec =
-    tie.close
-    (tie.spec decimal-value-requires enum-told enum-known-v join-requires returns returns-2)
+    tie.close (tie.spec decimal-value-requires enum-told enum-known-v returns returns-2)

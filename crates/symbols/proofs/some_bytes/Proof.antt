@@ -2,7 +2,7 @@
 use borrow.Author.Tests.{eq-eqb, ne-eqb}
 use Rattle.meaning.specs.Arithmetic.{op-constant}
 use Rattle.table.specs.Table.{symbol-word, symbol-value, op-word}
-use Rattle.symbols.specs.Symbols.{joined, some-bytes-symbol}
+use Rattle.symbols.specs.Symbols.{known, recognised, some-bytes-symbol}
 use borrow.Author.Needs.{needs}
 use Rattle.symbols.proofs.some_bytes.Statement.{statement}
 use Rattle.symbols.proofs.some_bytes.Tie as tie
@@ -10,26 +10,17 @@ use Rattle.symbols.proofs.some_bytes.Tie as tie
 packed-name-requires : tie.Need-packed-name-requires
 packed-name-requires c κs = search needs
 
-join-requires : tie.Need-join-requires
-join-requires c κs = search needs
-
 returns : tie.Need-returns
-unfolding some-bytes-symbol joined symbol-word symbol-value op-word op-constant
-returns c = simp (← c .before .before .packed-name .ensures, eq-eqb _ _ (c .before .if1 .taken)) (c .join .ensures)
-
-join-requires-2 : tie.Need-join-requires-2
-join-requires-2 c κs = search needs
+unfolding some-bytes-symbol recognised known symbol-word symbol-value op-word op-constant
+returns c = simp (← c .before .packed-name .ensures, eq-eqb _ _ (c .if1 .taken))
 
 returns-2 : tie.Need-returns-2
-unfolding some-bytes-symbol joined symbol-word symbol-value op-word op-constant
-returns-2 c = simp (← c .before .before .before .packed-name .ensures, ne-eqb _ _ (c .before .before .if1 .left), eq-eqb _ _ (c .before .if2 .taken)) (c .join2 .ensures)
-
-join-requires-3 : tie.Need-join-requires-3
-join-requires-3 c κs = search needs
+unfolding some-bytes-symbol recognised known symbol-word symbol-value op-word op-constant
+returns-2 c = simp (← c .before .before .packed-name .ensures, ne-eqb _ _ (c .before .if1 .left), eq-eqb _ _ (c .if2 .taken))
 
 returns-3 : tie.Need-returns-3
-unfolding some-bytes-symbol joined symbol-word symbol-value op-word op-constant
-returns-3 c = simp (← c .before .before .before .before .packed-name .ensures, ne-eqb _ _ (c .before .before .before .if1 .left), ne-eqb _ _ (c .before .before .if2 .left), eq-eqb _ _ (c .before .if3 .taken)) (c .join3 .ensures)
+unfolding some-bytes-symbol recognised known symbol-word symbol-value op-word op-constant
+returns-3 c = simp (← c .before .before .before .packed-name .ensures, ne-eqb _ _ (c .before .before .if1 .left), ne-eqb _ _ (c .before .if2 .left), eq-eqb _ _ (c .if3 .taken))
 
 decimal-or-function-requires : tie.Need-decimal-or-function-requires
 decimal-or-function-requires c κs = search needs
@@ -43,11 +34,8 @@ some-bytes-spec =
     tie.close
     (tie.spec
     packed-name-requires
-    join-requires
     returns
-    join-requires-2
     returns-2
-    join-requires-3
     returns-3
     decimal-or-function-requires
     returns-4)

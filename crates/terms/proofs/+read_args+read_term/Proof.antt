@@ -1,12 +1,13 @@
--- `terms::read_args` and `terms::read_term` meet their contracts. Assumes nothing.
+-- `terms::read_args` and `terms::read_term` meet their contracts: they call each other, remaining depth and fields falling. Assumes nothing.
 use Rattle.terms.proofs.Laws as laws
-use Rattle.terms.specs.Terms.{wrong-code, Reached, Tolds}
+use Rattle.terms.specs.Terms.{Tolds}
+use Rattle.terms.specs.declared.Reached.{Reached}
 use borrow.Author.Needs.{needs}
 use native.Mathlib.Omega.{arith}
 use mathlib.Core.Path.{_≡_, refl, sym, _∙_}
 use mathlib.Core.List.{List}
-use Prim.Native.Nat.{ℕ, _+_, _-_, _*_, _<_, _≤_}
 use lib.ListN.{length}
+use Prim.Native.Nat.{ℕ, _+_, _-_, _*_, _<_, _≤_}
 use borrow.Fn.Kinds.{In}
 use borrow.Fn.PlainCycle.{Measures, is, falls, and}
 use Rattle.terms.proofs.read_args.Reads as read-args
@@ -15,17 +16,16 @@ use Rattle.terms.proofs.+read_args+read_term.Lts-read_args as read-args
 use Rattle.terms.proofs.read_term.Reads as read-term
 use Rattle.terms.proofs.read_term.Kinds as read-term-kinds
 use Rattle.terms.proofs.+read_args+read_term.Lts-read_term as read-term-lts
-use Rattle.terms.proofs.fault.Reads as fault-reads
-use Rattle.terms.proofs.judge.Reads as judge-reads
 use Rattle.lines.proofs.narrow.Reads as narrow-reads
+use Rattle.terms.proofs.judge.Reads as judge-reads
 use Rattle.terms.proofs.+read_args+read_term.{statement}
 use Rattle.terms.proofs.+read_args+read_term.Tie.{close}
 
 abbrev μ-read-args : Measures 3 read-args-kinds.ps ℕ
-μ-read-args κs a = 2 * a .1 .1 .1 .1 .0 + 1
+μ-read-args κs a = 2 * (a .1 .1 .1 .1 .0 + (length (a .0 .now) - a .1 .1 .1 .0)) + 1
 
 abbrev μ-read-term : Measures 3 read-term-kinds.ps ℕ
-μ-read-term κs a = 2 * a .1 .1 .1 .1 .0
+μ-read-term κs a = 2 * (a .1 .1 .1 .1 .0 + (length (a .0 .now) - a .1 .1 .1 .0))
 
 abbrev read-args-at : ℕ → In 3 read-args-kinds.ps
 read-args-at t = and 3 read-args-kinds.ps (is 3 read-args-kinds.ps μ-read-args t) read-args.Pre
@@ -46,7 +46,7 @@ read-args-Inv-loop words heads own at depth count mask ends₀ a₀ left₀ sort
     (length ends ≡ length ends₀) × (at ≤ a) × (a ≤ length words) × ((e′ : List ℕ) (r : Reached) → Tolds words heads own a depth left sorts ends e′ r → Tolds words heads own at depth count mask ends₀ e′ r)
 
 abbrev read-args-μ-loop : read-args-lts.MeasureT-loop
-read-args-μ-loop words heads own at depth count mask ends₀ a₀ left₀ sorts₀ ends a left sorts = left
+read-args-μ-loop words heads own at depth count mask ends₀ a₀ left₀ sorts₀ ends a left sorts = length words - a
 
 read-args-loop-holds :
     (t : ℕ) →
@@ -64,6 +64,12 @@ read-args-read-term-requires : (t : ℕ) → read-args-lts.Need-read-term-requir
 ) (read-args-at t) read-args.Post read-args-Inv-loop read-args-μ-loop
 read-args-read-term-requires t c κs = search needs
 
+read-args-enum-known-wrong : (t : ℕ) → read-args-lts.Need-enum-known-wrong (
+  read-term-below t,
+  read-term.Post,
+) (read-args-at t) read-args.Post read-args-Inv-loop read-args-μ-loop
+read-args-enum-known-wrong t c = search needs
+
 read-args-same-length : (t : ℕ) → read-args-lts.Need-same-length (
   read-term-below t,
   read-term.Post,
@@ -79,12 +85,18 @@ read-args-returns :
     read-args-Inv-loop
     read-args-μ-loop
 read-args-returns t c =
-    let s = c .before .before .before .before .before .before .before .before .before .before in
-    let n = c .before .before .before .before .before .before in (
+    let s = c .before .before .before .before .before .before .before .before .before .before .before .before in
+    let n = c .before .before .before .before .before .before .before .before in (
       n .loop .inv .3 _ _
-          (laws.args-fault (s .args .words .now) (s .args .heads .now) (s .args .own) (n .loop .a) (s .args .depth) (n .loop .left) (n .loop .sorts) _ _ (n .loop .ends) _ _ (c .before .before .before .before .before .loop-test .taken) (c .before .before .before .read-term .ensures .0) (laws.says-fault _ (c .if1 .taken))),
-      laws.within-more _ _ _ _ (n .loop .inv .1) (c .before .before .before .read-term .ensures .1),
+          (laws.args-fault (s .args .words .now) (s .args .heads .now) (s .args .own) (n .loop .a) (s .args .depth) (n .loop .left) (n .loop .sorts) _ _ (n .loop .ends) _ _ (c .before .before .before .before .before .before .before .loop-test .taken) (c .before .before .before .before .before .read-term .ensures .0) (c .before .wrong .given .1)),
+      laws.within-fault _ _ _ _ _ _ (c .before .before .before .before .before .read-term .ensures .1) (c .before .wrong .given .1),
     )
+
+read-args-enum-known-next : (t : ℕ) → read-args-lts.Need-enum-known-next (
+  read-term-below t,
+  read-term.Post,
+) (read-args-at t) read-args.Post read-args-Inv-loop read-args-μ-loop
+read-args-enum-known-next t c = search needs
 
 read-args-sub-left :
     (t : ℕ) →
@@ -104,7 +116,8 @@ read-args-loop-less :
     read-args.Post
     read-args-Inv-loop
     read-args-μ-loop
-read-args-loop-less t c = search needs
+read-args-loop-less t c =
+    let w = laws.within-next _ _ _ _ (c .before .before .before .before .before .read-term .ensures .1) (c .before .next .given .1) in omega (arith, w .0, w .1)
 
 read-args-loop-again :
     (t : ℕ) →
@@ -115,15 +128,14 @@ read-args-loop-again :
     read-args-Inv-loop
     read-args-μ-loop
 read-args-loop-again t c =
-    let s = c .before .before .before .before .before .before .before .before .before .before in
-    let n = c .before .before .before .before .before .before in
-    let x = laws.says-next _ (c .if1 .left) in
-    let w = laws.within-next _ _ _ _ (c .before .before .before .read-term .ensures .1) x in (
+    let s = c .before .before .before .before .before .before .before .before .before .before .before .before in
+    let n = c .before .before .before .before .before .before .before .before in
+    let w = laws.within-next _ _ _ _ (c .before .before .before .before .before .read-term .ensures .1) (c .before .next .given .1) in (
       search needs,
       omega (arith, w .1, n .loop .inv .1),
       w .0,
       λ e′ r p. n .loop .inv .3 e′ r
-          (laws.args-more (s .args .words .now) (s .args .heads .now) (s .args .own) (n .loop .a) (s .args .depth) (n .loop .left) (n .loop .sorts) _ (n .loop .ends) _ _ _ _ (omega (arith, n .loop .inv .0)) (c .before .before .before .before .before .loop-test .taken) (c .before .before .before .read-term .ensures .0) x p),
+          (laws.args-more (s .args .words .now) (s .args .heads .now) (s .args .own) (n .loop .a) (s .args .depth) (n .loop .left) (n .loop .sorts) _ (n .loop .ends) _ _ _ _ (omega (arith, n .loop .inv .0)) (c .before .before .before .before .before .before .before .loop-test .taken) (c .before .before .before .before .before .read-term .ensures .0) (c .before .next .given .1) p),
     )
 
 read-args-same-length-2 : (t : ℕ) → read-args-lts.Need-same-length-2 (
@@ -140,27 +152,12 @@ read-args-returns-2 :
     read-args.Post
     read-args-Inv-loop
     read-args-μ-loop
-read-args-returns-2 t c =
-    let x = laws.says-next (c .before .loop .a) (omega (arith, c .before .loop .inv .2)) in (
-      c .before .loop .inv .3 _ _ (laws.args-none _ _ _ _ _ _ _ _ _ (c .loop-test .left) x),
-      laws.place-within _ _ _ _ x (c .before .loop .inv .2) (c .before .loop .inv .1),
-    )
-
-read-term-fault-requires : (t : ℕ) → read-term-lts.Need-fault-requires (
-  fault-reads.Asked,
-  fault-reads.Learnt,
-  judge-reads.Asked,
-  judge-reads.Learnt,
-  narrow-reads.Asked,
-  narrow-reads.Learnt,
-  read-args-below t,
-  read-args.Post,
-) (read-term-at t) read-term.Post
-read-term-fault-requires t c κs = search needs
+read-args-returns-2 t c = (
+  c .before .loop .inv .3 _ _ (laws.args-none _ _ _ _ _ _ _ _ (c .loop-test .left)),
+  laws.place-within _ _ _ (c .before .loop .inv .2) (c .before .loop .inv .1),
+)
 
 read-term-returns : (t : ℕ) → read-term-lts.Need-returns (
-  fault-reads.Asked,
-  fault-reads.Learnt,
   judge-reads.Asked,
   judge-reads.Learnt,
   narrow-reads.Asked,
@@ -168,24 +165,9 @@ read-term-returns : (t : ℕ) → read-term-lts.Need-returns (
   read-args-below t,
   read-args.Post,
 ) (read-term-at t) read-term.Post
-unfolding wrong-code
-read-term-returns t c = (laws.term-none _ _ _ _ _ _ _ _ _ (c .before .if1 .taken) (c .fault .ensures), laws.fault-within _ _ _ _ _ (c .fault .ensures) (omega arith))
-
-read-term-fault-requires-2 : (t : ℕ) → read-term-lts.Need-fault-requires-2 (
-  fault-reads.Asked,
-  fault-reads.Learnt,
-  judge-reads.Asked,
-  judge-reads.Learnt,
-  narrow-reads.Asked,
-  narrow-reads.Learnt,
-  read-args-below t,
-  read-args.Post,
-) (read-term-at t) read-term.Post
-read-term-fault-requires-2 t c κs = search needs
+read-term-returns t c = (laws.term-none _ _ _ _ _ _ _ _ (c .if1 .taken), laws.fault-within _ _ _ _ (omega arith))
 
 read-term-returns-2 : (t : ℕ) → read-term-lts.Need-returns-2 (
-  fault-reads.Asked,
-  fault-reads.Learnt,
   judge-reads.Asked,
   judge-reads.Learnt,
   narrow-reads.Asked,
@@ -193,12 +175,9 @@ read-term-returns-2 : (t : ℕ) → read-term-lts.Need-returns-2 (
   read-args-below t,
   read-args.Post,
 ) (read-term-at t) read-term.Post
-unfolding wrong-code
-read-term-returns-2 t c = (laws.term-deep _ _ _ _ _ _ _ _ _ (c .before .before .if1 .left) (c .before .if2 .taken) (c .fault2 .ensures), laws.fault-within _ _ _ _ _ (c .fault2 .ensures) (omega (arith, c .before .before .if1 .left)))
+read-term-returns-2 t c = (laws.term-deep _ _ _ _ _ _ _ _ (c .before .if1 .left) (c .if2 .taken), laws.fault-within _ _ _ _ (omega (arith, c .before .if1 .left)))
 
 read-term-mul-judge : (t : ℕ) → read-term-lts.Need-mul-judge (
-  fault-reads.Asked,
-  fault-reads.Learnt,
   judge-reads.Asked,
   judge-reads.Learnt,
   narrow-reads.Asked,
@@ -209,8 +188,6 @@ read-term-mul-judge : (t : ℕ) → read-term-lts.Need-mul-judge (
 read-term-mul-judge t c = search needs
 
 read-term-shared-slice-read-judge : (t : ℕ) → read-term-lts.Need-shared-slice-read-judge (
-  fault-reads.Asked,
-  fault-reads.Learnt,
   judge-reads.Asked,
   judge-reads.Learnt,
   narrow-reads.Asked,
@@ -221,8 +198,6 @@ read-term-shared-slice-read-judge : (t : ℕ) → read-term-lts.Need-shared-slic
 read-term-shared-slice-read-judge t c = search needs
 
 read-term-judge-requires : (t : ℕ) → read-term-lts.Need-judge-requires (
-  fault-reads.Asked,
-  fault-reads.Learnt,
   judge-reads.Asked,
   judge-reads.Learnt,
   narrow-reads.Asked,
@@ -233,8 +208,6 @@ read-term-judge-requires : (t : ℕ) → read-term-lts.Need-judge-requires (
 read-term-judge-requires t c κs = search needs
 
 read-term-enum-known-wrong : (t : ℕ) → read-term-lts.Need-enum-known-wrong (
-  fault-reads.Asked,
-  fault-reads.Learnt,
   judge-reads.Asked,
   judge-reads.Learnt,
   narrow-reads.Asked,
@@ -244,21 +217,7 @@ read-term-enum-known-wrong : (t : ℕ) → read-term-lts.Need-enum-known-wrong (
 ) (read-term-at t) read-term.Post
 read-term-enum-known-wrong t c = search needs
 
-read-term-fault-requires-3 : (t : ℕ) → read-term-lts.Need-fault-requires-3 (
-  fault-reads.Asked,
-  fault-reads.Learnt,
-  judge-reads.Asked,
-  judge-reads.Learnt,
-  narrow-reads.Asked,
-  narrow-reads.Learnt,
-  read-args-below t,
-  read-args.Post,
-) (read-term-at t) read-term.Post
-read-term-fault-requires-3 t c κs = let k = laws.coded _ _ _ _ _ _ (c .before .before .before .judge .ensures) (c .before .wrong .given .1) in (k .0, k .1, omega arith)
-
 read-term-enum-known-count : (t : ℕ) → read-term-lts.Need-enum-known-count (
-  fault-reads.Asked,
-  fault-reads.Learnt,
   judge-reads.Asked,
   judge-reads.Learnt,
   narrow-reads.Asked,
@@ -269,8 +228,6 @@ read-term-enum-known-count : (t : ℕ) → read-term-lts.Need-enum-known-count (
 read-term-enum-known-count t c = search needs
 
 read-term-add-narrow : (t : ℕ) → read-term-lts.Need-add-narrow (
-  fault-reads.Asked,
-  fault-reads.Learnt,
   judge-reads.Asked,
   judge-reads.Learnt,
   narrow-reads.Asked,
@@ -281,8 +238,6 @@ read-term-add-narrow : (t : ℕ) → read-term-lts.Need-add-narrow (
 read-term-add-narrow t c = search needs
 
 read-term-narrow-requires : (t : ℕ) → read-term-lts.Need-narrow-requires (
-  fault-reads.Asked,
-  fault-reads.Learnt,
   judge-reads.Asked,
   judge-reads.Learnt,
   narrow-reads.Asked,
@@ -293,8 +248,6 @@ read-term-narrow-requires : (t : ℕ) → read-term-lts.Need-narrow-requires (
 read-term-narrow-requires t c κs = search needs
 
 read-term-mul-ends : (t : ℕ) → read-term-lts.Need-mul-ends (
-  fault-reads.Asked,
-  fault-reads.Learnt,
   judge-reads.Asked,
   judge-reads.Learnt,
   narrow-reads.Asked,
@@ -305,8 +258,6 @@ read-term-mul-ends : (t : ℕ) → read-term-lts.Need-mul-ends (
 read-term-mul-ends t c = search needs
 
 read-term-slice-write-ends : (t : ℕ) → read-term-lts.Need-slice-write-ends (
-  fault-reads.Asked,
-  fault-reads.Learnt,
   judge-reads.Asked,
   judge-reads.Learnt,
   narrow-reads.Asked,
@@ -316,9 +267,7 @@ read-term-slice-write-ends : (t : ℕ) → read-term-lts.Need-slice-write-ends (
 ) (read-term-at t) read-term.Post
 read-term-slice-write-ends t c = search needs
 
-read-term-add-result : (t : ℕ) → read-term-lts.Need-add-result (
-  fault-reads.Asked,
-  fault-reads.Learnt,
+read-term-add-t25 : (t : ℕ) → read-term-lts.Need-add-t25 (
   judge-reads.Asked,
   judge-reads.Learnt,
   narrow-reads.Asked,
@@ -326,11 +275,9 @@ read-term-add-result : (t : ℕ) → read-term-lts.Need-add-result (
   read-args-below t,
   read-args.Post,
 ) (read-term-at t) read-term.Post
-read-term-add-result t c = search needs
+read-term-add-t25 t c = search needs
 
 read-term-same-length : (t : ℕ) → read-term-lts.Need-same-length (
-  fault-reads.Asked,
-  fault-reads.Learnt,
   judge-reads.Asked,
   judge-reads.Learnt,
   narrow-reads.Asked,
@@ -341,8 +288,6 @@ read-term-same-length : (t : ℕ) → read-term-lts.Need-same-length (
 read-term-same-length t c = search needs
 
 read-term-returns-3 : (t : ℕ) → read-term-lts.Need-returns-3 (
-  fault-reads.Asked,
-  fault-reads.Learnt,
   judge-reads.Asked,
   judge-reads.Learnt,
   narrow-reads.Asked,
@@ -350,11 +295,14 @@ read-term-returns-3 : (t : ℕ) → read-term-lts.Need-returns-3 (
   read-args-below t,
   read-args.Post,
 ) (read-term-at t) read-term.Post
-read-term-returns-3 t c = (laws.term-got (c .before .before .before .before .before .before .before .before .before .before .before .before .args .words .now) (c .before .before .before .before .before .before .before .before .before .before .before .before .args .heads .now) (c .before .before .before .before .before .before .before .before .before .before .before .before .args .own) (c .before .before .before .before .before .before .before .before .before .before .before .before .args .at) (c .before .before .before .before .before .before .before .before .before .before .before .before .args .depth) (c .before .before .before .before .before .before .before .before .before .before .before .before .args .sort) _ _ _ _ (c .before .before .before .before .before .before .before .before .before .before .before .before .args .ends .now) _ _ (c .narrow .ensures) (c .before .before .before .before .before .before .before .before .if1 .left) (omega arith) (c .before .before .before .before .before .before .before .if2 .left) (sym (c .before .before .before .before .before .judge .ensures) ∙ c .before .before .before .count .given .1) (laws.args-none (c .before .before .before .before .before .before .before .before .before .before .before .before .args .words .now) (c .before .before .before .before .before .before .before .before .before .before .before .before .args .heads .now) (c .before .before .before .before .before .before .before .before .before .before .before .before .args .own) (c .before .before .before .before .before .before .before .before .before .before .before .before .args .at + 1) (c .before .before .before .before .before .before .before .before .before .before .before .before .args .depth - 1) _ _ (c .before .before .before .before .before .before .before .before .before .before .before .before .args .ends .now) _ (c .before .if3 .taken) (laws.says-next _ (omega arith))) (laws.says-next _ (omega arith)), laws.place-within _ _ _ _ (laws.says-next _ (omega arith)) (omega arith) (omega arith))
+read-term-returns-3 t c =
+    let s = c .before .before .before .before .before .before .before .before .before .before .before .before .args in (
+      laws.term-got (s .words .now) (s .heads .now) (s .own) (s .at) (s .depth) (s .sort) _ _ _ _ (s .ends .now) _ _ (c .narrow .ensures) (c .before .before .before .before .before .before .before .before .if1 .left) (omega arith) (c .before .before .before .before .before .before .before .if2 .left) (sym (c .before .before .before .before .before .judge .ensures) ∙ c .before .before .before .count .given .1)
+          (laws.args-none (s .words .now) (s .heads .now) (s .own) (s .at + 1) (s .depth - 1) _ _ (s .ends .now) (c .before .if3 .taken)) refl,
+      laws.place-within _ _ _ (omega (arith, c .before .before .before .before .before .before .before .before .if1 .left)) (omega arith),
+    )
 
 read-term-add-read-args : (t : ℕ) → read-term-lts.Need-add-read-args (
-  fault-reads.Asked,
-  fault-reads.Learnt,
   judge-reads.Asked,
   judge-reads.Learnt,
   narrow-reads.Asked,
@@ -365,8 +313,6 @@ read-term-add-read-args : (t : ℕ) → read-term-lts.Need-add-read-args (
 read-term-add-read-args t c = search needs
 
 read-term-sub-read-args : (t : ℕ) → read-term-lts.Need-sub-read-args (
-  fault-reads.Asked,
-  fault-reads.Learnt,
   judge-reads.Asked,
   judge-reads.Learnt,
   narrow-reads.Asked,
@@ -377,8 +323,6 @@ read-term-sub-read-args : (t : ℕ) → read-term-lts.Need-sub-read-args (
 read-term-sub-read-args t c = search needs
 
 read-term-read-args-requires : (t : ℕ) → read-term-lts.Need-read-args-requires (
-  fault-reads.Asked,
-  fault-reads.Learnt,
   judge-reads.Asked,
   judge-reads.Learnt,
   narrow-reads.Asked,
@@ -388,9 +332,7 @@ read-term-read-args-requires : (t : ℕ) → read-term-lts.Need-read-args-requir
 ) (read-term-at t) read-term.Post
 read-term-read-args-requires t c κs = search needs
 
-read-term-narrow-requires-2 : (t : ℕ) → read-term-lts.Need-narrow-requires-2 (
-  fault-reads.Asked,
-  fault-reads.Learnt,
+read-term-enum-known-wrong-2 : (t : ℕ) → read-term-lts.Need-enum-known-wrong-2 (
   judge-reads.Asked,
   judge-reads.Learnt,
   narrow-reads.Asked,
@@ -398,11 +340,29 @@ read-term-narrow-requires-2 : (t : ℕ) → read-term-lts.Need-narrow-requires-2
   read-args-below t,
   read-args.Post,
 ) (read-term-at t) read-term.Post
-read-term-narrow-requires-2 t c κs = search needs
+read-term-enum-known-wrong-2 t c = search needs
+
+read-term-enum-known-next : (t : ℕ) → read-term-lts.Need-enum-known-next (
+  judge-reads.Asked,
+  judge-reads.Learnt,
+  narrow-reads.Asked,
+  narrow-reads.Learnt,
+  read-args-below t,
+  read-args.Post,
+) (read-term-at t) read-term.Post
+read-term-enum-known-next t c = search needs
+
+read-term-narrow-requires-2 : (t : ℕ) → read-term-lts.Need-narrow-requires-2 (
+  judge-reads.Asked,
+  judge-reads.Learnt,
+  narrow-reads.Asked,
+  narrow-reads.Learnt,
+  read-args-below t,
+  read-args.Post,
+) (read-term-at t) read-term.Post
+read-term-narrow-requires-2 t c κs = let w = laws.within-next _ _ _ _ (c .before .before .before .before .before .read-args .ensures .1) (c .before .next .given .1) in omega (arith, w .0)
 
 read-term-mul-ends-2 : (t : ℕ) → read-term-lts.Need-mul-ends-2 (
-  fault-reads.Asked,
-  fault-reads.Learnt,
   judge-reads.Asked,
   judge-reads.Learnt,
   narrow-reads.Asked,
@@ -413,8 +373,6 @@ read-term-mul-ends-2 : (t : ℕ) → read-term-lts.Need-mul-ends-2 (
 read-term-mul-ends-2 t c = search needs
 
 read-term-slice-write-ends-2 : (t : ℕ) → read-term-lts.Need-slice-write-ends-2 (
-  fault-reads.Asked,
-  fault-reads.Learnt,
   judge-reads.Asked,
   judge-reads.Learnt,
   narrow-reads.Asked,
@@ -424,9 +382,21 @@ read-term-slice-write-ends-2 : (t : ℕ) → read-term-lts.Need-slice-write-ends
 ) (read-term-at t) read-term.Post
 read-term-slice-write-ends-2 t c = search needs
 
+read-term-returns-4 : (t : ℕ) → read-term-lts.Need-returns-4 (
+  judge-reads.Asked,
+  judge-reads.Learnt,
+  narrow-reads.Asked,
+  narrow-reads.Learnt,
+  read-args-below t,
+  read-args.Post,
+) (read-term-at t) read-term.Post
+read-term-returns-4 t c =
+    let s = c .before .before .before .before .before .before .before .before .before .before .args in (
+      laws.term-bad (s .words .now) (s .heads .now) (s .own) _ _ _ _ _ _ (c .before .before .before .before .before .before .if1 .left) (c .before .before .before .before .before .if2 .left) (sym (c .before .before .before .judge .ensures) ∙ c .before .wrong .given .1),
+      laws.fault-within _ _ _ _ (omega (arith, c .before .before .before .before .before .before .if1 .left)),
+    )
+
 read-term-same-length-2 : (t : ℕ) → read-term-lts.Need-same-length-2 (
-  fault-reads.Asked,
-  fault-reads.Learnt,
   judge-reads.Asked,
   judge-reads.Learnt,
   narrow-reads.Asked,
@@ -436,21 +406,7 @@ read-term-same-length-2 : (t : ℕ) → read-term-lts.Need-same-length-2 (
 ) (read-term-at t) read-term.Post
 read-term-same-length-2 t c = search needs
 
-read-term-returns-4 : (t : ℕ) → read-term-lts.Need-returns-4 (
-  fault-reads.Asked,
-  fault-reads.Learnt,
-  judge-reads.Asked,
-  judge-reads.Learnt,
-  narrow-reads.Asked,
-  narrow-reads.Learnt,
-  read-args-below t,
-  read-args.Post,
-) (read-term-at t) read-term.Post
-read-term-returns-4 t c = (laws.term-got (c .before .before .before .before .before .before .before .before .before .before .before .before .before .before .before .before .before .args .words .now) (c .before .before .before .before .before .before .before .before .before .before .before .before .before .before .before .before .before .args .heads .now) (c .before .before .before .before .before .before .before .before .before .before .before .before .before .before .before .before .before .args .own) (c .before .before .before .before .before .before .before .before .before .before .before .before .before .before .before .before .before .args .at) (c .before .before .before .before .before .before .before .before .before .before .before .before .before .before .before .before .before .args .depth) (c .before .before .before .before .before .before .before .before .before .before .before .before .before .before .before .before .before .args .sort) _ _ _ _ (c .before .before .before .before .before .before .before .before .before .before .before .before .before .before .before .before .before .args .ends .now) _ _ (c .narrow2 .ensures) (c .before .before .before .before .before .before .before .before .before .before .before .before .before .if1 .left) (omega arith) (c .before .before .before .before .before .before .before .before .before .before .before .before .if2 .left) (sym (c .before .before .before .before .before .before .before .before .before .before .judge .ensures) ∙ c .before .before .before .before .before .before .before .before .count .given .1) (c .before .before .before .before .read-args .ensures .0) (laws.says-next _ (c .before .if4 .taken)), laws.within-more _ _ _ _ (omega arith) (c .before .before .before .before .read-args .ensures .1))
-
 read-term-returns-5 : (t : ℕ) → read-term-lts.Need-returns-5 (
-  fault-reads.Asked,
-  fault-reads.Learnt,
   judge-reads.Asked,
   judge-reads.Learnt,
   narrow-reads.Asked,
@@ -458,11 +414,13 @@ read-term-returns-5 : (t : ℕ) → read-term-lts.Need-returns-5 (
   read-args-below t,
   read-args.Post,
 ) (read-term-at t) read-term.Post
-read-term-returns-5 t c = (laws.term-bad (c .before .before .before .before .before .before .before .before .before .before .before .args .words .now) (c .before .before .before .before .before .before .before .before .before .before .before .args .heads .now) (c .before .before .before .before .before .before .before .before .before .before .before .args .own) _ _ _ _ _ _ _ (c .before .before .before .before .before .before .before .if1 .left) (c .before .before .before .before .before .before .if2 .left) (sym (c .before .before .before .before .judge .ensures) ∙ c .before .before .wrong .given .1) (c .fault3 .ensures), laws.fault-within _ _ _ _ _ (c .fault3 .ensures) (omega (arith, c .before .before .before .before .before .before .before .if1 .left)))
+read-term-returns-5 t c =
+    let s = c .before .before .before .before .before .before .before .before .before .before .before .before .before .before .before .before .before .before .args in (
+      laws.term-fault (s .words .now) (s .heads .now) (s .own) (s .at) (s .depth) (s .sort) _ _ _ _ (s .ends .now) _ _ (c .before .before .before .before .before .before .before .before .before .before .before .before .before .before .if1 .left) (c .before .before .before .before .before .before .before .before .before .before .before .before .before .if2 .left) (sym (c .before .before .before .before .before .before .before .before .before .before .before .judge .ensures) ∙ c .before .before .before .before .before .before .before .before .before .count .given .1) (c .before .before .before .before .before .read-args .ensures .0) (c .before .wrong2 .given .1),
+      laws.within-fault _ _ _ _ _ _ (c .before .before .before .before .before .read-args .ensures .1) (c .before .wrong2 .given .1),
+    )
 
 read-term-same-length-3 : (t : ℕ) → read-term-lts.Need-same-length-3 (
-  fault-reads.Asked,
-  fault-reads.Learnt,
   judge-reads.Asked,
   judge-reads.Learnt,
   narrow-reads.Asked,
@@ -473,8 +431,6 @@ read-term-same-length-3 : (t : ℕ) → read-term-lts.Need-same-length-3 (
 read-term-same-length-3 t c = search needs
 
 read-term-returns-6 : (t : ℕ) → read-term-lts.Need-returns-6 (
-  fault-reads.Asked,
-  fault-reads.Learnt,
   judge-reads.Asked,
   judge-reads.Learnt,
   narrow-reads.Asked,
@@ -482,7 +438,12 @@ read-term-returns-6 : (t : ℕ) → read-term-lts.Need-returns-6 (
   read-args-below t,
   read-args.Post,
 ) (read-term-at t) read-term.Post
-read-term-returns-6 t c = (laws.term-fault (c .before .before .before .before .before .before .before .before .before .before .before .before .before .before .before .before .args .words .now) (c .before .before .before .before .before .before .before .before .before .before .before .before .before .before .before .before .args .heads .now) (c .before .before .before .before .before .before .before .before .before .before .before .before .before .before .before .before .args .own) (c .before .before .before .before .before .before .before .before .before .before .before .before .before .before .before .before .args .at) (c .before .before .before .before .before .before .before .before .before .before .before .before .before .before .before .before .args .depth) (c .before .before .before .before .before .before .before .before .before .before .before .before .before .before .before .before .args .sort) _ _ _ _ (c .before .before .before .before .before .before .before .before .before .before .before .before .before .before .before .before .args .ends .now) _ _ (c .before .before .before .before .before .before .before .before .before .before .before .before .if1 .left) (c .before .before .before .before .before .before .before .before .before .before .before .if2 .left) (sym (c .before .before .before .before .before .before .before .before .before .judge .ensures) ∙ c .before .before .before .before .before .before .before .count .given .1) (c .before .before .before .read-args .ensures .0) (laws.says-fault _ (c .if4 .left)), laws.within-more _ _ _ _ (omega arith) (c .before .before .before .read-args .ensures .1))
+read-term-returns-6 t c =
+    let s = c .before .before .before .before .before .before .before .before .before .before .before .before .before .before .before .before .before .before .before .args in
+    let w = laws.within-next _ _ _ _ (c .before .before .before .before .before .before .read-args .ensures .1) (c .before .before .next .given .1) in (
+      laws.term-got (s .words .now) (s .heads .now) (s .own) (s .at) (s .depth) (s .sort) _ _ _ _ (s .ends .now) _ _ (c .narrow2 .ensures) (c .before .before .before .before .before .before .before .before .before .before .before .before .before .before .before .if1 .left) (omega arith) (c .before .before .before .before .before .before .before .before .before .before .before .before .before .before .if2 .left) (sym (c .before .before .before .before .before .before .before .before .before .before .before .before .judge .ensures) ∙ c .before .before .before .before .before .before .before .before .before .before .count .given .1) (c .before .before .before .before .before .before .read-args .ensures .0) (c .before .before .next .given .1),
+      laws.place-within _ _ _ (w .0) (w .1),
+    )
 
 pub +read-args+read-term-spec : {M : Type 1} → statement M
 +read-args+read-term-spec = close μ-read-args μ-read-term (λ t. read-args-lts.spec (
@@ -495,16 +456,16 @@ pub +read-args+read-term-spec : {M : Type 1} → statement M
     read-args-μ-loop
     (read-args-loop-holds t)
     (read-args-read-term-requires t)
+    (read-args-enum-known-wrong t)
     (read-args-same-length t)
     (read-args-returns t)
+    (read-args-enum-known-next t)
     (read-args-sub-left t)
     (read-args-loop-less t)
     (read-args-loop-again t)
     (read-args-same-length-2 t)
     (read-args-returns-2 t))
     λ t. read-term-lts.spec (
-      fault-reads.Asked,
-      fault-reads.Learnt,
       judge-reads.Asked,
       judge-reads.Learnt,
       narrow-reads.Asked,
@@ -514,31 +475,30 @@ pub +read-args+read-term-spec : {M : Type 1} → statement M
     )
     (read-term-at t)
     read-term.Post
-    (read-term-fault-requires t)
     (read-term-returns t)
-    (read-term-fault-requires-2 t)
     (read-term-returns-2 t)
     (read-term-mul-judge t)
     (read-term-shared-slice-read-judge t)
     (read-term-judge-requires t)
     (read-term-enum-known-wrong t)
-    (read-term-fault-requires-3 t)
     (read-term-enum-known-count t)
     (read-term-add-narrow t)
     (read-term-narrow-requires t)
     (read-term-mul-ends t)
     (read-term-slice-write-ends t)
-    (read-term-add-result t)
+    (read-term-add-t25 t)
     (read-term-same-length t)
     (read-term-returns-3 t)
     (read-term-add-read-args t)
     (read-term-sub-read-args t)
     (read-term-read-args-requires t)
+    (read-term-enum-known-wrong-2 t)
+    (read-term-enum-known-next t)
     (read-term-narrow-requires-2 t)
     (read-term-mul-ends-2 t)
     (read-term-slice-write-ends-2 t)
-    (read-term-same-length-2 t)
     (read-term-returns-4 t)
+    (read-term-same-length-2 t)
     (read-term-returns-5 t)
     (read-term-same-length-3 t)
     (read-term-returns-6 t)

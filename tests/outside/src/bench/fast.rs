@@ -36,7 +36,7 @@ struct Function {
 const TRUTH: u8 = 11;
 const COND: u8 = 12;
 const NAMED: u8 = 13;
-const UNKNOWN: u8 = 14;
+const UNLISTED: u8 = 14;
 const ARGUMENT: u8 = 16;
 
 /// What follows a symbol, until all entrances are known: a tag above an address.
@@ -151,7 +151,7 @@ const SHAPES: [Shape; 12] = {
 
 /// The tag of each one-byte symbol.
 const SINGLE: [u8; 128] = {
-    let mut tags = [UNKNOWN; 128];
+    let mut tags = [UNLISTED; 128];
     let operations = *b"+-*/%=<&|!";
     let mut index = 0;
     while index < operations.len() {
@@ -233,11 +233,11 @@ unsafe fn tag_of(text: &[u8], at: usize, bytes: u64, len: usize) -> (u8, u64) {
         return decimal(text, at, len);
     }
     match bytes {
-        _ if first.is_ascii_uppercase() => (if len <= 8 { NAMED } else { UNKNOWN }, bytes),
+        _ if first.is_ascii_uppercase() => (if len <= 8 { NAMED } else { UNLISTED }, bytes),
         COND_WORD if len == 4 => (COND, 0),
         TRUE_WORD if len == 4 => (TRUTH, 1),
         FALSE_WORD if len == 5 => (TRUTH, 0),
-        _ => (UNKNOWN, 0),
+        _ => (UNLISTED, 0),
     }
 }
 
@@ -249,16 +249,16 @@ const FALSE_WORD: u64 = word(b"false");
 unsafe fn decimal(text: &[u8], at: usize, len: usize) -> (u8, u64) {
     let mut value = 0u64;
     if len > 10 || *text.get_unchecked(at) == b'0' {
-        return (UNKNOWN, 0);
+        return (UNLISTED, 0);
     }
     for index in at..at + len {
         let digit = text.get_unchecked(index).wrapping_sub(b'0');
         if digit > 9 {
-            return (UNKNOWN, 0);
+            return (UNLISTED, 0);
         }
         value = 10 * value + digit as u64;
     }
-    (if value <= u32::MAX as u64 { 0 } else { UNKNOWN }, value)
+    (if value <= u32::MAX as u64 { 0 } else { UNLISTED }, value)
 }
 
 /// Fields 1 to 4 of a line that has at least five; goes on to the fifth.
@@ -429,7 +429,7 @@ impl Program {
         }
     }
 
-    /// TERM and NEST of one body; resolves names and finds what follows each symbol.
+    /// TERM, NEST, UNKNOWN, SORT and SHORT of one body; resolves names and finds what follows each symbol.
     #[inline(always)]
     unsafe fn body(&mut self, index: usize) -> Result<(), (u32, u32)> {
         #[derive(Clone, Copy)]
@@ -455,7 +455,7 @@ impl Program {
         loop {
             let number = (address - own.first as usize - shift) as u32 + 5;
             if address == end {
-                return Err((TERM, number));
+                return Err((SHORT, number));
             }
             if depth == 32 {
                 return Err((NEST, number));
@@ -467,21 +467,21 @@ impl Program {
                 *SHAPES.get_unchecked(tag as usize)
             } else if tag >= ARGUMENT {
                 if tag - ARGUMENT >= own.shape.args {
-                    return Err((TERM, number));
+                    return Err((UNKNOWN, number));
                 }
                 Shape { args: 0, sorts: 0, strict: 0, result: own.shape.sorts >> (tag - ARGUMENT) & 1 }
             } else if tag == COND {
                 Shape { args: 3, sorts: 1 | want << 1 | want << 2, strict: 1, result: want }
             } else {
                 let (_, line) = self.slot_of(*self.values.get_unchecked(place));
-                if tag == UNKNOWN || line == 0 {
-                    return Err((TERM, number));
+                if tag == UNLISTED || line == 0 {
+                    return Err((UNKNOWN, number));
                 }
                 *self.values.get_unchecked_mut(place) = line as u64 - 1;
                 self.functions.get_unchecked(line as usize - 1).shape
             };
             if shape.result != want {
-                return Err((TERM, number));
+                return Err((SORT, number));
             }
             if shape.args > 0 {
                 let child = address as u16 + 1;

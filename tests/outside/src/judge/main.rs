@@ -358,8 +358,8 @@ impl Tally {
             ("data stack of 512 and HALT", self.halted_at_512_data),
         ];
         [
-            ("Check", named(&self.check_numbers, &[0, 1, 2, 3, 4, 5, 6, 8])),
-            ("Run", named(&self.run_numbers, &[0, 1, 2, 3, 4, 5, 6, 7, 8, 9, 10, 12])),
+            ("Check", named(&self.check_numbers, &[0, 1, 2, 3, 4, 5, 6, 8, 13, 14, 15])),
+            ("Run", named(&self.run_numbers, &[0, 1, 2, 3, 4, 5, 6, 7, 8, 9, 10, 12, 13, 14, 15])),
             ("met", others),
         ]
     }

@@ -37,7 +37,7 @@ pub fn translate(text: &[u8], code: &mut [u32]) -> Checked {
     accepted(&functions)
 }
 
-/// Run: refusals 1 to 8 leave both slices as they are; after a run the code stands and the work is clear.
+/// Run: refusals 1 to 8 and 13 to 15 leave both slices as they are; after a run the code stands and the work is clear.
 pub fn run(text: &[u8], args: &[u32], limit: u32, code: &mut [u32], work: &mut [u32]) -> Answer {
     let functions = match text::read(text) {
         Ok(functions) => functions,

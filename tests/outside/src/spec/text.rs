@@ -1,6 +1,6 @@
 //! Rule text: from bytes to functions, or to a refusal with its place.
 
-use crate::boundary::{COUNT, LINE, LONG, NAME, NEST, TERM};
+use crate::boundary::{COUNT, LINE, LONG, NAME, NEST, SHORT, SORT, TERM, UNKNOWN};
 
 #[derive(Clone, Copy, Debug, PartialEq, Eq)]
 pub enum Sort {
@@ -76,7 +76,7 @@ struct Opening<'a> {
     result: Sort,
 }
 
-/// The functions of an accepted text, refusals 1 to 6 in their order.
+/// The functions of an accepted text; refusals 1 to 4 in their order, then 5, 6 and 13 to 15 by the first place.
 pub fn read(text: &[u8]) -> Result<Vec<Function>, Refusal> {
     if text.len() > 16384 {
         return Err(Refusal::without_place(LONG));
@@ -198,7 +198,7 @@ fn names_differ(lines: &[Fields]) -> Result<(), Refusal> {
     Ok(())
 }
 
-// TERM and NEST
+// TERM, NEST, UNKNOWN, SORT and SHORT
 
 fn function(index: usize, fields: &Fields, openings: &[Opening]) -> Result<Function, Refusal> {
     let own = &openings[index];
@@ -229,15 +229,15 @@ impl BodyReader<'_> {
     fn term(&mut self, expected: Sort, depth: usize) -> Result<Term, (u32, usize)> {
         let place = self.next;
         if place > self.fields.len() {
-            return Err((TERM, place));
+            return Err((SHORT, place));
         }
         if depth > 32 {
             return Err((NEST, place));
         }
-        let symbol = self.symbol(self.fields[place - 1]).ok_or((TERM, place))?;
+        let symbol = self.symbol(self.fields[place - 1]).ok_or((UNKNOWN, place))?;
         let (takes, gives) = self.kind(symbol, expected);
         if gives != expected {
-            return Err((TERM, place));
+            return Err((SORT, place));
         }
         self.next += 1;
         let mut arguments = Vec::new();
@@ -247,6 +247,7 @@ impl BodyReader<'_> {
         Ok(Term { symbol, arguments })
     }
 
+    /// None for an unknown symbol and for an argument that the function lacks.
     fn symbol(&self, field: &[u8]) -> Option<Symbol> {
         use Operation::*;
         Some(match field {

@@ -1,8 +1,8 @@
--- `symbols::sign_word` meets its contract. Assumes nothing.
+-- `symbols::sign` meets its contract. Assumes nothing.
 use borrow.Author.Tests.{eq-eqb, ne-eqb}
 use Rattle.symbols.specs.Symbols.{sign-by}
-use Rattle.symbols.proofs.sign_word.Statement.{statement}
-use Rattle.symbols.proofs.sign_word.Tie as tie
+use Rattle.symbols.proofs.sign.Statement.{statement}
+use Rattle.symbols.proofs.sign.Tie as tie
 
 returns : tie.Need-returns
 unfolding sign-by
@@ -36,7 +36,7 @@ returns-8 : tie.Need-returns-8
 unfolding sign-by
 returns-8 c = simp (ne-eqb _ _ (c .before .before .before .before .before .before .if1 .left), ne-eqb _ _ (c .before .before .before .before .before .if2 .left), ne-eqb _ _ (c .before .before .before .before .if3 .left), ne-eqb _ _ (c .before .before .before .if4 .left), ne-eqb _ _ (c .before .before .if5 .left), ne-eqb _ _ (c .before .if6 .left), ne-eqb _ _ (c .if7 .left))
 
-pub sign-word-spec : {M : Type 1} → statement M
-sign-word-spec =
+pub sign-spec : {M : Type 1} → statement M
+sign-spec =
     tie.close
     (tie.spec returns returns-2 returns-3 returns-4 returns-5 returns-6 returns-7 returns-8)

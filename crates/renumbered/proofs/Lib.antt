@@ -1,0 +1,3 @@
+-- Verdicts by two tables; the statements. Assumes nothing.
+pub mod Verdicts
+pub mod Numbers
