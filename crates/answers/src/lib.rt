@@ -1,5 +1,7 @@
 // What Check, Translate and Run answer once a text is read into the table: room for heads and code, arguments against the entry's signature, the run.
 // The contracts speak of every text that the table may be of (`IsRead`). Assumes nothing.
+#![tactic(auto)]
+
 ghost use Rattle.std.specs.Prelude.{◌≡◌, List, ℕ, ◌≤◌, length};
 ghost use Rattle.meaning.specs.Numbers.{most_functions};
 ghost use Rattle.answers.specs.Fitting.{fits_sort, fits_signature, masked, no_room, refusal};
@@ -9,7 +11,7 @@ use heads::Heads;
 use meaning::{Answer, Checked};
 
 // What the check of a text finds: the answer, and the heads that are to be written, by value.
-#[derive(Drop)]
+#[derive(Clone, Copy)]
 pub struct Found {
     pub answer: Checked,
     pub heads: Heads,

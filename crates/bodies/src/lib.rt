@@ -1,5 +1,7 @@
 // The bodies of a text by line: each body's fields go as symbols into the table, then the table is read as one term. Two looks at each byte (where a
 // line and its fields end), one to make a symbol of a field, one comparison a function for a name. Assumes nothing.
+#![tactic(auto)]
+
 ghost use Rattle.std.specs.Prelude.{◌≡◌, map, ◌+◌, ◌-◌, ◌≤◌, ◌<◌, length, drop, set};
 ghost use Rattle.meaning.specs.Arithmetic.{modulus};
 ghost use Rattle.meaning.specs.Numbers.{no, most_bytes, most_functions};
@@ -16,7 +18,7 @@ use symbols::Recognised;
 use terms::Reached;
 
 // What reading all bodies comes to: the address after the last, or number, line and field.
-#[derive(Drop)]
+#[derive(Clone, Copy)]
 pub enum Finished {
     Done(usize),
     Refused(u32, u32, u32),

@@ -1,4 +1,6 @@
 // Translate's core: from the table of symbols to code words. Assumes nothing.
+#![tactic(auto)]
+
 ghost use Rattle.std.specs.Prelude.{◌≡◌, ◌+◌, ◌-◌, ◌*◌, ◌≤◌, ◌<◌, ltb, length};
 ghost use Rattle.meaning.specs.Basics.{if◌then◌else◌};
 ghost use Rattle.meaning.specs.Numbers.{instruction_words};

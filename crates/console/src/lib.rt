@@ -1,4 +1,6 @@
 // The program's work on slices: the bytes of standard input to the one line of output. Assumes nothing.
+#![tactic(auto)]
+
 ghost use Rattle.std.specs.Prelude.{◌≡◌, ◌≤◌, length};
 ghost use Rattle.meaning.specs.Program.{order_of, printed};
 ghost use Rattle.printing.specs.Digits.{shown};

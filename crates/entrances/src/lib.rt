@@ -1,4 +1,6 @@
 // Where a term is entered and what follows it, found in the table of symbols. Assumes nothing.
+#![tactic(auto)]
+
 ghost use Rattle.std.specs.Prelude.{◌≡◌, ◌≤◌, length, get_or};
 ghost use Rattle.entrances.specs.View.{leads_of};
 ghost use Rattle.entrances.specs.Entrances.{most_words, Entrance, Follower, Passed, Entrances};

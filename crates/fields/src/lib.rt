@@ -1,6 +1,8 @@
 // Fields of a text: where they end, what forms they have, decimals, names as numbers. Each field is looked at where it stands; nothing is copied out
 // of the text. Every line and field that is cut out of a text ends where `piece_end` says, which goes through the reader of fields (`reader::field`).
 // Each function looks at a byte once. Assumes nothing.
+#![tactic(auto)]
+
 ghost use Rattle.std.specs.Prelude.{◌≡◌, ◌+◌, ◌≤◌, ◌<◌, length, drop};
 ghost use Rattle.meaning.specs.Arithmetic.{modulus};
 ghost use Rattle.meaning.specs.Text.{is_visible, is_name, are_sorts, is_result, is_capital, is_digit, is_sort};
@@ -8,14 +10,14 @@ ghost use Rattle.meaning.specs.Basics.{between};
 ghost use Rattle.fields.specs.Fields.{span, visible_span, occurrences, count_of, decimal_of, digits_from, packed, is_name_byte};
 
 // A field's digit, or that it is none.
-#[derive(Drop)]
+#[derive(Clone, Copy)]
 pub enum Strict {
     Not,
     Is(u32),
 }
 
 // A field's decimal, or that it is none.
-#[derive(Drop)]
+#[derive(Clone, Copy)]
 pub enum Decimal {
     Not,
     Value(u32),

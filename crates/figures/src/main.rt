@@ -1,15 +1,18 @@
 // The figures: each line of standard input has a number of code words, a number of work words, and what stands on the program's standard input, with
 // \t, \n, \\ and \xHH for bytes that are no plain text. For each the program's line is written, so much memory being lent.
 // The cases are document 01's rows, both sides of each of its limits, the rules of examples/, and the vectors of implementations that were written apart.
-// Assumes of `io` and `libc` that the bytes of standard input arrive in the buffer and those of the lines are written.
+// Assumes of std that the bytes of standard input arrive in the buffer and those of the lines are written.
+#![tactic(auto)]
+
 ghost use Rattle.std.specs.Prelude.{◌<◌, ◌≤◌, length, ◌≡◌};
 
 use meaning::{MOST_CODE_WORDS, WORK_WORDS};
 use order::MOST_INPUT;
 use printing::Printed;
+use std::io;
 
 // A byte, and where the next one begins.
-#[derive(Drop)]
+#[derive(Clone, Copy)]
 struct Unescaped {
     byte: u8,
     next: usize,
@@ -99,43 +102,59 @@ fn unescape(line: &[u8], input: &mut [u8]) -> usize
     n
 }
 
-fn show(line: Printed)
+fn show(rt: &impl Print, line: Printed) -> io::Result<()>
     requires { line.len ≤ length line.bytes }
 {
     let bytes = line.bytes;
     let len = line.len;
-    io::write_all(1, &bytes[..len]);
+    rt.write_all(&bytes[..len])
 }
 
-fn figure(line: &[u8], input: &mut [u8], code: &mut [u32], work: &mut [u32]) {
+fn figure(
+    rt: &impl Print,
+    line: &[u8],
+    input: &mut [u8],
+    code: &mut [u32],
+    work: &mut [u32],
+) -> io::Result<()> {
     let a = fields::piece_end(line, 0, fields::TAB);
     if line.len() - a == 0 {
-        return;
+        return Ok(());
     }
     let b = fields::piece_end(line, a + 1, fields::TAB);
     if line.len() - b == 0 {
-        return;
+        return Ok(());
     }
     let c = length_of(&line[..a], code.len());
     let w = length_of(&line[a + 1..b], work.len());
     let n = unescape(&line[b + 1..], input);
-    show(console::respond(&input[..n], &mut code[..c], &mut work[..w]));
+    show(
+        rt,
+        console::respond(&input[..n], &mut code[..c], &mut work[..w]),
+    )
 }
 
-fn figures(lines: &[u8], input: &mut [u8], code: &mut [u32], work: &mut [u32]) {
+fn figures(
+    rt: &impl Print,
+    lines: &[u8],
+    input: &mut [u8],
+    code: &mut [u32],
+    work: &mut [u32],
+) -> io::Result<()> {
     let mut at: usize = 0;
     while at < lines.len() {
         let e = fields::piece_end(lines, at, fields::LINE_END);
-        figure(&lines[at..e], input, code, work);
+        figure(rt, &lines[at..e], input, code, work)?;
         at = e + 1;
     }
+    Ok(())
 }
 
-fn main() {
+fn main(rt: HostRuntime) -> io::Result<()> {
     let mut lines = [0u8; 262144];
     let mut input = [0u8; MOST_INPUT];
     let mut code = [0u32; MOST_CODE_WORDS];
     let mut work = [0u32; WORK_WORDS];
-    let n = io::read_full(0, &mut lines);
-    figures(&lines[..n], &mut input, &mut code, &mut work);
+    let n = intake::read_full(&rt, &mut lines)?;
+    figures(&rt, &lines[..n], &mut input, &mut code, &mut work)
 }

@@ -1,4 +1,6 @@
 // The frame of a call: a level of the work slice is lent on to be filled with where to go on, link, values and entrances. Assumes nothing.
+#![tactic(auto)]
+
 ghost use Rattle.std.specs.Prelude.{[], ◌+◌, ◌-◌, ◌≤◌, ◌<◌, length};
 ghost use Rattle.meaning.specs.Numbers.{most_arguments, most_height};
 ghost use Rattle.layout.specs.Decoding.{row, leading};

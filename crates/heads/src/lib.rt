@@ -1,4 +1,6 @@
 // Heads of functions: collected by value from the table's signatures and addresses, and the one thin writer that puts them into a lent slice. Assumes nothing.
+#![tactic(auto)]
+
 ghost use Rattle.std.specs.Prelude.{◌≡◌, ◌++◌, ◌<◌, ◌≤◌, length, get_or, take, drop};
 ghost use Rattle.meaning.specs.Numbers.{most_functions};
 ghost use Rattle.heads.specs.Heads.{head, no_head, heads_by};
@@ -6,7 +8,7 @@ ghost use Rattle.heads.specs.Heads.{head, no_head, heads_by};
 use meaning::{Head, MOST_FUNCTIONS};
 
 // As many heads as a text can have: one a function, then entries of zeros.
-#[derive(Drop)]
+#[derive(Clone, Copy)]
 pub struct Heads {
     pub list: [Head; MOST_FUNCTIONS],
 }

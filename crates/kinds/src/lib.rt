@@ -1,5 +1,7 @@
 // One step of the machine: registers and a tally by value, one function for each kind of instruction, and the step that goes by the kind.
 // Each function's contract says what it comes to against the machine's own clause for that instruction, for any code words. Assumes nothing.
+#![tactic(auto)]
+
 ghost use Rattle.std.specs.Prelude.{◌≡◌, ◌+◌, ◌≤◌, length, get_or};
 ghost use Rattle.std.proofs.Math.Option.{some};
 ghost use Rattle.meaning.specs.Numbers.{instruction_words};
@@ -10,7 +12,7 @@ ghost use Rattle.kinds.specs.Met.{none_done, counted, Few, number_at, ending, Ru
 use word::Worked;
 
 // Steps and rewrites of a run, carried from step to step.
-#[derive(Drop)]
+#[derive(Clone, Copy)]
 pub struct Tally {
     pub steps: u64,
     pub rewrites: u64,
@@ -51,7 +53,7 @@ impl Tally {
 
 // What the machine holds beside the work words. `number` is what a run that ends here answers: FUEL while it can go on.
 // `held` is the top of the data stack, `env` the level whose frame is first in the environment, `high` and `deep` are the heights of return and data stack.
-#[derive(Drop)]
+#[derive(Clone, Copy)]
 pub struct Registers {
     pub number: u32,
     pub held: u32,

@@ -1,5 +1,6 @@
 // The numbers of code words and of the work memory's layout, as specs/Decoding.antt and specs/Layout.antt have them; what is proved of decoding and of the
 // layout stands in specs/ and proofs/. Assumes nothing.
+#![tactic(auto)]
 
 // The kinds of instruction.
 pub const EVAL: u32 = 1;

@@ -1,5 +1,7 @@
 // The lines of a text: LINE over all of them, counts, names and signatures on the way; COUNT, NAME. A scan looks twice at each byte (where a line
 // ends, what its fields hold) and once more at names and sorts; NAME costs a comparison for each pair of functions. Assumes nothing.
+#![tactic(auto)]
+
 ghost use Rattle.std.specs.Prelude.{◌≡◌, [], ◌∷◌, map, ◌+◌, ◌-◌, ◌≤◌, ◌<◌, length, drop, set};
 ghost use Rattle.meaning.specs.Arithmetic.{modulus};
 ghost use Rattle.meaning.specs.Numbers.{most_bytes, most_functions};
@@ -11,14 +13,14 @@ ghost use Rattle.lines.specs.Lines.{shown, judged_from, judged_2, judged_line, b
 use fields::Strict;
 
 // What a test of a text comes to: number, line and field where it is refused.
-#[derive(Drop)]
+#[derive(Clone, Copy)]
 pub enum Judgement {
     Passes,
     Refused(u32, u32, u32),
 }
 
 // What the scan of a text comes to: number, line and field where its shape is refused, number 0 and the counts of its lines and body symbols where it passes.
-#[derive(Drop)]
+#[derive(Clone, Copy)]
 pub struct Scanned {
     pub number: u32,
     pub line: u32,
@@ -28,7 +30,7 @@ pub struct Scanned {
 }
 
 // Where the first four tabs of a line stand.
-#[derive(Drop)]
+#[derive(Clone, Copy)]
 pub struct Tabs {
     pub name: usize,
     pub strict: usize,

@@ -1,5 +1,7 @@
 // The abstract machine over one slice of work words: `execute` runs any code words from the initial term's entrance, and is proved to answer as the
 // defined run does, at every step limit. Assumes nothing.
+#![tactic(auto)]
+
 ghost use Rattle.std.specs.Prelude.{◌≡◌, ◌≤◌, ◌<◌, ◌^◌, length, drop};
 ghost use Rattle.meaning.specs.Basics.{written_over};
 ghost use Rattle.meaning.specs.Numbers.{most_arguments, work_words};

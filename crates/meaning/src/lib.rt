@@ -1,9 +1,10 @@
 // What a caller of the engine sees: heads, answers, and document 01's numbers and limits by name.
 // What they mean stands in specs/, page by page in document 01's order. Assumes nothing.
+#![tactic(auto)]
 
 // One function of an accepted text: how many arguments it takes, how many of them are strict, its result's sort (n 0, b 1), and the address of its body's first symbol.
 #[repr(C)]
-#[derive(Drop)]
+#[derive(Clone, Copy)]
 pub struct Head {
     pub args: u32,
     pub strict: u32,
@@ -13,7 +14,7 @@ pub struct Head {
 
 // What Check and Translate answer.
 #[repr(C)]
-#[derive(Drop)]
+#[derive(Clone, Copy)]
 pub struct Checked {
     pub number: u32,
     pub line: u32,
@@ -24,7 +25,7 @@ pub struct Checked {
 
 // What Run answers.
 #[repr(C)]
-#[derive(Drop)]
+#[derive(Clone, Copy)]
 pub struct Answer {
     pub number: u32,
     pub value: u32,
@@ -36,7 +37,7 @@ pub struct Answer {
 
 // What is wrong at a field of a body: no known symbol, an argument the function lacks, a symbol of another sort than its place takes, a body that ends
 // early, a field left over, a symbol at depth 33. specs/Terms.antt gives the number for each.
-#[derive(Drop)]
+#[derive(Clone, Copy)]
 pub enum Wrong {
     UnknownSymbol,
     LackingArgument,

@@ -1,5 +1,7 @@
 // The engine: Check, Translate and Run of document 01 for any bytes, any arguments, any limit and slices of any length.
 // A contract is an equation with the definitions on meaning's page Answers, on every path; there is nothing that a caller has to test first. Assumes nothing.
+#![tactic(auto)]
+
 ghost use Rattle.std.specs.Prelude.{◌≡◌, ◌≤◌, length};
 ghost use Rattle.meaning.specs.Answers.{check_answer, check_heads, translate_answer, translate_code, run_answer, run_code, run_work};
 ghost use Rattle.nespralha.specs.Short.{short_text};

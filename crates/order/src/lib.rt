@@ -1,4 +1,6 @@
 // The first line of standard input: the step limit and the arguments. Assumes nothing.
+#![tactic(auto)]
+
 ghost use Rattle.std.specs.Prelude.{◌≡◌, [], drop};
 ghost use Rattle.meaning.specs.Text.{pieces, tab};
 ghost use Rattle.meaning.specs.Program.{order_of};
@@ -14,7 +16,7 @@ const FIRST_LINE_BYTES: usize = 128;
 pub const MOST_INPUT: usize = FIRST_LINE_BYTES + 1 + (meaning::MOST_BYTES + 1);
 
 // What a first line asks for: whether it is well formed, limit, arguments, how many of them, and where the text after it begins.
-#[derive(Drop)]
+#[derive(Clone, Copy)]
 pub struct Asked {
     pub formed: bool,
     pub limit: u32,

@@ -1,4 +1,6 @@
 // An answer as the one line of output: six decimals, parted by tabs and ended by byte 10. Assumes nothing.
+#![tactic(auto)]
+
 ghost use Rattle.std.specs.Prelude.{◌≡◌, ◌++◌, ◌∷◌, [], ◌+◌, ◌≤◌, ◌<◌, length, get_or, drop};
 ghost use Rattle.meaning.specs.Program.{decimal, ten_places, printed_field, printed};
 ghost use Rattle.printing.specs.Digits.{digits, shown};
@@ -19,7 +21,7 @@ const PLACES: [u32; 10] = [
 ];
 
 // A line as far as it is written.
-#[derive(Drop)]
+#[derive(Clone, Copy)]
 pub struct Printed {
     pub bytes: [u8; 66],
     pub len: usize,

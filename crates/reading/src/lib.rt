@@ -1,5 +1,7 @@
 // The core of Check: any bytes to an answer and, where they are accepted, to names, signatures, addresses and the table of symbols in lent arrays.
 // Its cost grows linearly with the text but for names: a comparison for each pair of functions and for each symbol and function. Assumes nothing.
+#![tactic(auto)]
+
 ghost use Rattle.std.specs.Prelude.{◌≡◌, map, ◌∷◌, ◌+◌, ◌%◌, ◌≤◌, ◌<◌, length};
 ghost use Rattle.meaning.specs.Arithmetic.{modulus};
 ghost use Rattle.meaning.specs.Numbers.{most_bytes, most_functions, most_symbols};

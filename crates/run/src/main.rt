@@ -1,25 +1,28 @@
 // The program: standard input is a first line with the step limit and the arguments, then the text; standard output is one line, the answer.
 // It reads at most 129 bytes more than a text can have: what follows cannot change the answer (`enough` in order/proofs/Enough.antt).
 // The line is `output` of the input in meaning's page Program (console's `respond`, with `program_output` in console/specs/Responses.antt).
-// Assumes of `io` and `libc` that the bytes of standard input arrive in the buffer and those of the line are written.
+// Assumes of std that the bytes of standard input arrive in the buffer and those of the line are written.
+#![tactic(auto)]
+
 ghost use Rattle.std.specs.Prelude.{◌≤◌, length};
 
 use meaning::{MOST_CODE_WORDS, WORK_WORDS};
 use order::MOST_INPUT;
 use printing::Printed;
+use std::io;
 
-fn show(line: Printed)
+fn show(rt: &impl Print, line: Printed) -> io::Result<()>
     requires { line.len ≤ length line.bytes }
 {
     let bytes = line.bytes;
     let len = line.len;
-    io::write_all(1, &bytes[..len]);
+    rt.write_all(&bytes[..len])
 }
 
-fn main() {
+fn main(rt: HostRuntime) -> io::Result<()> {
     let mut input = [0u8; MOST_INPUT];
     let mut code = [0u32; MOST_CODE_WORDS];
     let mut work = [0u32; WORK_WORDS];
-    let n = io::read_full(0, &mut input);
-    show(console::respond(&input[..n], &mut code, &mut work));
+    let n = intake::read_full(&rt, &mut input)?;
+    show(&rt, console::respond(&input[..n], &mut code, &mut work))
 }

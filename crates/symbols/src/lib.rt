@@ -1,5 +1,7 @@
 // One field to a symbol: known, with its word and its value in the table, or unknown. A name is looked up as one number (`fields::packed_name`), so a
 // field costs its own bytes and one comparison a function. Assumes nothing.
+#![tactic(auto)]
+
 ghost use Rattle.std.specs.Prelude.{◌≡◌, true, List, map, ◌≤◌, length};
 ghost use Rattle.meaning.specs.Numbers.{most_functions};
 ghost use Rattle.meaning.specs.Text.{Field, is_visible};
@@ -10,7 +12,7 @@ ghost use Rattle.symbols.specs.Symbols.{recognised, Named, short_symbol, sign_by
 use fields::Decimal;
 
 // What a field is: a known symbol, by its word and its value in the table, or an unknown one.
-#[derive(Drop)]
+#[derive(Clone, Copy)]
 pub enum Recognised {
     Known(u32, u32),
     Unknown,

@@ -1,4 +1,5 @@
 // The table of symbols that Check's core fills and Translate's core reads: definitions in specs/. No functions.
+#![tactic(auto)]
 
 // Words of symbols: an unknown one, arguments, constants (a number, then `true` and `false`), operations, `cond` and functions.
 pub const UNKNOWN: u32 = 0;

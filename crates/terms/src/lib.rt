@@ -1,5 +1,7 @@
 // Terms over the table of symbols: a term is read by reading its symbol, then as many argument terms as it takes, each symbol judged at its own
 // place; where each term ends goes into a lent table. Each symbol is looked at once. Assumes nothing.
+#![tactic(auto)]
+
 ghost use Rattle.std.specs.Prelude.{◌≡◌, ◌+◌, ◌*◌, ◌/◌, ◌%◌, ◌^◌, ◌≤◌, ◌<◌, length};
 ghost use Rattle.meaning.specs.Arithmetic.{modulus};
 ghost use Rattle.terms.specs.Terms.{signed_by, argument_by, function_by, operation_by, takes_by, Told, Tolds, Whole, Within};
@@ -7,14 +9,14 @@ ghost use Rattle.terms.specs.Terms.{signed_by, argument_by, function_by, operati
 use meaning::Wrong;
 
 // What a symbol is at its place: it takes so many arguments, whose sorts are a mask, and gives the sort expected; or what is wrong with it.
-#[derive(Drop)]
+#[derive(Clone, Copy)]
 pub enum Takes {
     Args(u32, u32),
     Cannot(Wrong),
 }
 
 // What reading comes to: the place after what was read, or what is wrong and where.
-#[derive(Drop)]
+#[derive(Clone, Copy)]
 pub enum Reached {
     Next(usize),
     Fault(Wrong, usize),

@@ -2,12 +2,14 @@
 // "All arithmetic on numbers is modulo 2^32": a sum, difference or product is worked out in 64 bits, where it has room, and its remainder by 2^32 is kept.
 // Each function is proved equal, at all numbers, to its definition on meaning's page Arithmetic; the examples here are computed in specs/Examples.antt.
 // A division by 0 has no value, and the test for it stands with the division. `operate` goes by an operation's number. Assumes nothing.
+#![tactic(auto)]
+
 ghost use Rattle.std.specs.Prelude.{◌≡◌, ◌+◌, ◌-◌, ◌%◌};
 ghost use Rattle.meaning.specs.Arithmetic.{modulus, sum, product, quotient, remainder, equal, less, both, either, opposite};
 ghost use Rattle.word.specs.Operated.{divides, operated};
 
 // What an operation comes to: a value, or none where its divisor is 0.
-#[derive(Drop)]
+#[derive(Clone, Copy)]
 pub enum Worked {
     Value(u32),
     ByZero,

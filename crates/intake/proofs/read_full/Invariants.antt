@@ -1,0 +1,6 @@
+-- What has come fits. Assumes nothing.
+use Rattle.std.proofs.Common.{◌≤◌, length}
+use Rattle.intake.proofs.read_full.Given as goal
+
+abbrev pub invariant-loop : goal.invariant-loop
+invariant-loop g l = l.at ≤ length l.bytes
