@@ -1,0 +1,16 @@
+-- What holds at each turn of the loop of `frames::copy_entrances`, and its measure. Assumes nothing.
+use mathlib.Core.Path.{◌≡◌, refl}
+use Prim.Native.Nat.{◌-◌, ◌≤◌}
+use native.Mathlib.Omega.{arith}
+use lib.ListN.{length, length-set}
+use borrow.Author.Rules.{rules}
+use Rattle.meaning.specs.Numbers.{most_arguments}
+use Rattle.frames.specs.Frames.{Copied}
+use Rattle.frames.proofs.Filling.{yet, copied_none, copied_stop, copied_all, copied_more}
+use Rattle.frames.proofs.copy_entrances.Given as goal
+
+abbrev pub invariant-loop-n : goal.invariant-loop-n
+invariant-loop-n l = (l.code ≤ l.n) × (l.n ≤ most_arguments) × (length l.part ≡ length l.k) × Copied l.k l.part l.code l.n l.from l.initial.part (yet l.from l.initial.part l.code l.n)
+
+abbrev pub decreases-loop-n : goal.decreases-loop-n
+decreases-loop-n l = most_arguments - l.n

@@ -1,0 +1,15 @@
+-- What holds at each turn of the loop of `frames::move_values`, and its measure. Assumes nothing.
+use mathlib.Core.Path.{◌≡◌, refl}
+use Prim.Native.Nat.{◌-◌, ◌≤◌}
+use native.Mathlib.Omega.{arith}
+use lib.ListN.{length, length-set}
+use borrow.Author.Rules.{rules}
+use Rattle.frames.specs.Frames.{Moved}
+use Rattle.frames.proofs.Filling.{moved_none, moved_more, moved_all}
+use Rattle.frames.proofs.move_values.Given as goal
+
+abbrev pub invariant-loop-i : goal.invariant-loop-i
+invariant-loop-i l = (l.i ≤ l.from) × (length l.part ≡ length l.k) × Moved l.k l.part l.from l.i
+
+abbrev pub decreases-loop-i : goal.decreases-loop-i
+decreases-loop-i l = l.from - l.i

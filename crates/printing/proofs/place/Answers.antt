@@ -1,0 +1,8 @@
+-- `printing::place` meets its contract. Assumes nothing.
+use mathlib.Core.Path.{refl}
+use Rattle.printing.proofs.Laws.{place_positive}
+use borrow.Author.Rules.{rules}
+use Rattle.printing.proofs.place.Goals as goal
+
+pub returns : goal.returns
+returns c = (refl, place_positive c.args.i c.requires)

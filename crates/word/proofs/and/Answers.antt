@@ -1,0 +1,16 @@
+-- `word::and` meets its contract. Assumes nothing.
+use borrow.Author.Tests.{eq-eqb, ne_eqb}
+use Rattle.meaning.specs.Arithmetic.{both}
+use Rattle.word.proofs.and.Goals as goal
+
+pub returns-then-a-eq0 : goal.returns-then-a-eq0
+unfolding both
+returns-then-a-eq0 c = simp (eq-eqb _ _ c.if-a-eq0.true)
+
+pub returns-then-b-eq0 : goal.returns-then-b-eq0
+unfolding both
+returns-then-b-eq0 c = simp (ne_eqb _ _ c.if-a-eq0.false, eq-eqb _ _ c.if-b-eq0.true)
+
+pub returns-else-b-eq0 : goal.returns-else-b-eq0
+unfolding both
+returns-else-b-eq0 c = simp (ne_eqb _ _ c.if-a-eq0.false, ne_eqb _ _ c.if-b-eq0.false)
