@@ -134,4 +134,4 @@ deeper c d l h = record { words = h.words; values = h.values; ends = h.ends; sha
 pub joined_others : {H W K E : List ℕ} {a d : ℕ} (ss ws : Terms) → RowAt H W K E a d (joined ss ws) → RowAt H W K E (a + sizes ss) d ws
 unfolding joined size
 joined_others {H} {W} {K} {E} {a} {d} nil ws h = subst (λ (n : ℕ). RowAt H W K E n d ws) (omega arith) h
-joined_others {H} {W} {K} {E} {a} {d} (cons s ss) ws h = subst (λ (n : ℕ). RowAt H W K E n d ws) (omega arith) (joined_others ss ws (others_at h))
+joined_others {H} {W} {K} {E} {a} {d} (cons s ss) ws h = subst (λ (n : ℕ). RowAt H W K E n d ws) (omega arith) (joined_others {a = a + size s} ss ws (others_at h))

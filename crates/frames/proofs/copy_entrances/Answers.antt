@@ -13,10 +13,10 @@ pub loop-n-init : goal.loop-n-init
 loop-n-init c = (omega arith, omega arith, refl, copied_none _ _ _ _ c.requires.0)
 
 pub returns-then-entrance-eq0 : goal.returns-then-entrance-eq0
-returns-then-entrance-eq0 c = let s = c in let l = c.loop-n in copied_stop s.args.part.now l.part s.args.k l.n s.args.code.now s.args.from l.invariant.3 c.if-entrance-eq0.true
+returns-then-entrance-eq0 c = let l = c.loop-n in copied_stop c.args.part.now l.part c.args.k l.n c.args.code.now c.args.from l.invariant.3 c.if-entrance-eq0.true
 
 pub loop-n-preserved : goal.loop-n-preserved
-loop-n-preserved c = let s = c in let l = c.loop-n in (omega arith, omega arith, simp length-set (search rules), copied_more s.args.part.now l.part s.args.k l.n s.args.code.now s.args.from s.requires.1 (omega arith) l.invariant.3 c.if-entrance-eq0.false)
+loop-n-preserved c = let l = c.loop-n in (omega arith, omega arith, simp length-set (search rules), copied_more c.args.part.now l.part c.args.k l.n c.args.code.now c.args.from c.requires.1 (omega arith) l.invariant.3 c.if-entrance-eq0.false)
 
 pub returns : goal.returns
-returns c = let s = c in let l = c.loop-n in copied_all s.args.part.now l.part s.args.k l.n s.args.code.now s.args.from l.invariant.3 (omega arith)
+returns c = let l = c.loop-n in copied_all c.args.part.now l.part c.args.k l.n c.args.code.now c.args.from l.invariant.3 (omega arith)

@@ -10,7 +10,7 @@ use Rattle.frames.proofs.Filling.{yet, copied_none, copied_stop, copied_all, cop
 use Rattle.frames.proofs.copy_entrances.Given as goal
 
 abbrev pub invariant-loop-n : goal.invariant-loop-n
-invariant-loop-n l = (l.code ≤ l.n) × (l.n ≤ most_arguments) × (length l.part ≡ length l.k) × Copied l.k l.part l.code l.n l.from l.initial.part (yet l.from l.initial.part l.code l.n)
+invariant-loop-n l = (l.k ≤ l.n) × (l.n ≤ most_arguments) × (length l.part ≡ length l.initial.part) × Copied l.initial.part l.part l.k l.n l.code l.from (yet l.code l.from l.k l.n)
 
 abbrev pub decreases-loop-n : goal.decreases-loop-n
 decreases-loop-n l = most_arguments - l.n

@@ -8,9 +8,9 @@ use Rattle.frames.proofs.Entering.{entered}
 use Rattle.frames.proofs.enter.Goals as goal
 
 pub shape_of-work : goal.shape_of-work
-shape_of-work c = let s = c in let f = c.fill in
-    (entered s.args.work.now f.new.0 s.args.link s.args.high s.args.held s.args.deep s.args.k s.args.next (leading (row s.args.code.now s.args.from (most_arguments - s.args.k))) s.requires.0 s.requires.2 s.requires.3 s.requires.1 f.ensures).long
+shape_of-work c = let f = c.fill in
+    (entered c.args.work.now f.new.part c.args.link c.args.high c.args.held c.args.deep c.args.k c.args.next (leading (row c.args.code.now c.args.from (most_arguments - c.args.k))) c.requires.0 c.requires.2 c.requires.3 c.requires.1 f.ensures).long
 
 pub returns : goal.returns
-returns c = let s = c in let f = c.fill in
-    entered s.args.work.now f.new.0 s.args.link s.args.high s.args.held s.args.deep s.args.k s.args.next (leading (row s.args.code.now s.args.from (most_arguments - s.args.k))) s.requires.0 s.requires.2 s.requires.3 s.requires.1 f.ensures
+returns c = let f = c.fill in
+    entered c.args.work.now f.new.part c.args.link c.args.high c.args.held c.args.deep c.args.k c.args.next (leading (row c.args.code.now c.args.from (most_arguments - c.args.k))) c.requires.0 c.requires.2 c.requires.3 c.requires.1 f.ensures

@@ -17,5 +17,5 @@ pub shape_of-part : goal.shape_of-part
 shape_of-part c = simp length-set (search rules)
 
 pub returns : goal.returns
-returns c = let s = c in let m = c.move_values in let p = c.copy_entrances-n in
-    filled s.args.part.now m.new.0 p.new.0 s.args.k p.result s.args.next s.args.link s.args.code.now s.args.from s.requires.0 s.requires.1 m.ensures p.ensures
+returns c = let m = c.move_values in let p = c.copy_entrances-n in
+    filled c.args.part.now m.new.part p.new.part c.args.k p.result c.args.next c.args.link c.args.code.now c.args.from c.requires.0 c.requires.1 m.ensures p.ensures

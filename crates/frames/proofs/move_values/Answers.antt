@@ -12,7 +12,7 @@ pub loop-i-init : goal.loop-i-init
 loop-i-init c = (omega arith, refl, moved_none _ _)
 
 pub loop-i-preserved : goal.loop-i-preserved
-loop-i-preserved c = let s = c in let l = c.loop-i in (omega arith, simp length-set (search rules), moved_more s.args.part.now l.part s.args.k l.i s.requires.0 s.requires.1 (omega arith) l.invariant.2)
+loop-i-preserved c = let l = c.loop-i in (omega arith, simp length-set (search rules), moved_more c.args.part.now l.part c.args.k l.i c.requires.0 c.requires.1 (omega arith) l.invariant.2)
 
 pub returns : goal.returns
-returns c = let s = c in let l = c.loop-i in moved_all s.args.part.now l.part s.args.k l.i l.invariant.2 l.invariant.0 (omega arith)
+returns c = let l = c.loop-i in moved_all c.args.part.now l.part c.args.k l.i l.invariant.2 l.invariant.0 (omega arith)

@@ -9,7 +9,7 @@ use Rattle.frames.proofs.Filling.{moved_none, moved_more, moved_all}
 use Rattle.frames.proofs.move_values.Given as goal
 
 abbrev pub invariant-loop-i : goal.invariant-loop-i
-invariant-loop-i l = (l.i ≤ l.from) × (length l.part ≡ length l.k) × Moved l.k l.part l.from l.i
+invariant-loop-i l = (l.i ≤ l.k) × (length l.part ≡ length l.initial.part) × Moved l.initial.part l.part l.k l.i
 
 abbrev pub decreases-loop-i : goal.decreases-loop-i
-decreases-loop-i l = l.from - l.i
+decreases-loop-i l = l.k - l.i

@@ -6,8 +6,6 @@ use Rattle.meaning.specs.Program.{printed}
 use borrow.Author.Rules.{rules}
 use Rattle.printing.proofs.print.Goals as goal
 
-)
-
 pub returns : goal.returns
 unfolding printed
 returns c = (
@@ -22,3 +20,4 @@ returns c = (
     nothing_shown,
   ),
   omega (arith, c.put_field.ensures.2),
+)
