@@ -1,0 +1,13 @@
+-- `kinds::Tally::step` meets its contract. Assumes nothing.
+use mathlib.Core.Path.{sym, ap}
+use Prim.Native.Nat.{ℕ, ◌+◌}
+use native.Mathlib.Nat.{add-zero}
+use borrow.Author.Rules.{rules}
+use Rattle.meaning.specs.Machine.{rewrites}
+use Rattle.kinds.proofs.Tally.step.Goals as goal
+
+pub step_spec : {M : Type 1} → statement M
+step_spec = tie.close (tie.spec add-t2 returns)
+
+pub returns : goal.returns
+returns c = ap (λ (n : ℕ). record { steps = c.args.self.steps + 1; rewrites = n }) (sym (add-zero c.args.self.rewrites))
