@@ -29,7 +29,7 @@ emit_row-loop-a-preserved t c =
       search rules,
       λ c' p. c.loop-a.invariant.1 c'
           (laws.row_more _ _ c.args.words.now _ c.args.ends.now c.loop-a.a c.args.end c.loop-a.left _ _ c.args.depth c.loop-a.code _ _ _ _ _
-          c.loop-a-test.true (omega (arith, c.requires.1.1, c.loop-a.invariant.0)) c.word_at-past.ensures c.follower-next.ensures c.emit_term.ensures c.less-left.ensures p),
+          c.loop-a-test.true (omega (arith, c.requires.1, c.loop-a.invariant.0)) c.word_at-past.ensures c.follower-next.ensures c.emit_term.ensures c.less-left.ensures p),
     )
 
 pub emit_row-returns : goal.emit_row-returns
@@ -44,4 +44,4 @@ emit_term-returns-then-words-i t c = laws.emit_out _ _ _ _ _ _ _ _ _ c.if-words-
 pub emit_term-returns : goal.emit_term-returns
 emit_term-returns t c =
     laws.emit_more _ _ c.args.words.now _ _ c.args.at _ _ c.args.code.now _ _
-    (omega (arith, c.requires.1.1, c.if-words-i.false)) c.put_instruction.ensures c.emit_args.ensures
+    (omega (arith, c.requires.1, c.if-words-i.false)) c.put_instruction.ensures c.emit_args.ensures

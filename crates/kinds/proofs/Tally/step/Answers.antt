@@ -6,8 +6,5 @@ use borrow.Author.Rules.{rules}
 use Rattle.meaning.specs.Machine.{rewrites}
 use Rattle.kinds.proofs.Tally.step.Goals as goal
 
-pub step_spec : {M : Type 1} → statement M
-step_spec = tie.close (tie.spec add-t2 returns)
-
 pub returns : goal.returns
 returns c = ap (λ (n : ℕ). record { steps = c.args.self.steps + 1; rewrites = n }) (sym (add-zero c.args.self.rewrites))

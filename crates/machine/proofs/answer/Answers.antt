@@ -1,0 +1,6 @@
+-- `machine::answer` meets its contract. Assumes nothing.
+use borrow.Author.Rules.{rules}
+use Rattle.machine.proofs.answer.Goals as goal
+
+pub returns : goal.returns
+returns c = let s = c.args.s in rw c.value.ensures
