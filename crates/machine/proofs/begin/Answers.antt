@@ -11,4 +11,4 @@ pub bounds-work-3 : goal.bounds-work-3
 bounds-work-3 c = simp length-set (search rules)
 
 pub returns : goal.returns
-returns c = let a = c.copy_arguments in begun c.args.work.now a.new.1.0 c.args.args.now c.requires.0 c.requires.1 a.ensures
+returns c = let a = c.copy_arguments in begun c.args.work.now a.new.work c.args.args.now c.requires.0 c.requires.1 a.ensures
