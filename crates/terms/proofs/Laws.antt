@@ -186,7 +186,7 @@ node_got W e e1 at next r H y S ys (got ts zs) h l a t p q =
     let N : Node H y ts = node H y ts (subst (Applies y) (sym t.1) a) in
     let n : next ≡ suc at + sizes ts = next_is p.0 q ∙ ap (λ (k : ℕ). k + sizes ts) (add-one at) in
     let x : row_ends ts (at + 1) ≡ row_ends ts (suc at) = ap (row_ends ts) (add-one at) in (
-      q ∙ ap Next (omega (arith, n, N.type_size)),
+      q ∙ ap Next (omega (arith, n, N.size_of)),
       rw p.1 (splice_head e at next (row_ends ts (at + 1)) (omega arith) ∙ rw (n, x, N.ends_of at)),
     )
 
