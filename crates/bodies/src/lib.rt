@@ -54,8 +54,8 @@ fn fill(
     words: &mut [u32],
     values: &mut [u32],
 ) -> usize
-    requires names_len_bound { length names.now ≤ most_functions }
-    requires line_in_bounds { (from + length (rest 9 (drop at line.now)) ≤ length words.old) × (from + length (rest 9 (drop at line.now)) ≤ length values.old) }
+    requires few { length names.now ≤ most_functions }
+    requires room { (from + length (rest 9 (drop at line.now)) ≤ length words.old) × (from + length (rest 9 (drop at line.now)) ≤ length values.old) }
     ensures place { result ≡ from + length (rest 9 (drop at line.now)) }
     ensures words { words.new ≡ splice words.old from (words_by names.now (rest 9 (drop at line.now))) }
     ensures values { values.new ≡ splice values.old from (values_by names.now (rest 9 (drop at line.now))) }
@@ -83,8 +83,8 @@ fn read_line(
     values: &mut [u32],
     ends: &mut [u32],
 ) -> Reached
-    requires names_len_bound { (length names.now ≤ most_functions) × (wrong_field (pieces 9 line.now) ≡ 0) }
-    requires line_in_bounds { (from + body_fields line.now ≤ length words.old) × (from + body_fields line.now ≤ length values.old) × (from + body_fields line.now ≤ length ends.old) × (from + body_fields line.now < modulus) }
+    requires shape { (length names.now ≤ most_functions) × (wrong_field (pieces 9 line.now) ≡ 0) }
+    requires room { (from + body_fields line.now ≤ length words.old) × (from + body_fields line.now ≤ length values.old) × (from + body_fields line.now ≤ length ends.old) × (from + body_fields line.now < modulus) }
     ensures read { Lined line.now names.now heads.now own from words.old words.new values.old values.new ends.old ends.new result }
     ensures within { Reaches from (body_fields line.now) result }
 {
@@ -133,9 +133,9 @@ pub fn read_lines(
     values: &mut [u32],
     ends: &mut [u32],
 ) -> Finished
-    requires text_len_bound { (length text.now ≤ most_bytes) × Right (raw_lines text.now) × Right (raw_lines (drop at text.now)) × (drop l (lines text.now) ≡ lines (drop at text.now)) }
-    requires names_value { (names.now ≡ map name_number (lines text.now)) × (heads.now ≡ map line_signature (lines text.now)) × (length (lines text.now) ≤ most_functions) × (l ≤ most_functions) }
-    requires text_in_bounds { (length (lines text.now) ≤ length bodies.old) × (from + total (lines (drop at text.now)) ≤ length words.old) × (from + total (lines (drop at text.now)) ≤ length values.old) × (from + total (lines (drop at text.now)) ≤ length ends.old) × (5 + (from + total (lines (drop at text.now))) < modulus) }
+    requires shape { (length text.now ≤ most_bytes) × Right (raw_lines text.now) × Right (raw_lines (drop at text.now)) × (drop l (lines text.now) ≡ lines (drop at text.now)) }
+    requires noted { (names.now ≡ map name_number (lines text.now)) × (heads.now ≡ map line_signature (lines text.now)) × (length (lines text.now) ≤ most_functions) × (l ≤ most_functions) }
+    requires room { (length (lines text.now) ≤ length bodies.old) × (from + total (lines (drop at text.now)) ≤ length words.old) × (from + total (lines (drop at text.now)) ≤ length values.old) × (from + total (lines (drop at text.now)) ≤ length ends.old) × (5 + (from + total (lines (drop at text.now))) < modulus) }
     ensures { Finishes l from bodies.old bodies.new words.old words.new values.old values.new ends.old ends.new (read_bodies (lines text.now) (l + 1) (lines (drop at text.now))) result }
 {
     if text.len() <= at {
