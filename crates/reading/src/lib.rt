@@ -92,8 +92,8 @@ fn read_named(
     values: &mut [u32],
     ends: &mut [u32],
 ) -> Checked
-    requires text_len_bound { (length text.now ≤ most_bytes) × Right (raw_lines text.now) × (0 < length (lines text.now)) × (length (lines text.now) ≤ most_functions) × (total (lines text.now) ≤ most_symbols) }
-    requires names_value { (names.now ≡ map name_number (lines text.now)) × (heads.now ≡ map line_signature (lines text.now)) }
+    requires shape { (length text.now ≤ most_bytes) × Right (raw_lines text.now) × (0 < length (lines text.now)) × (length (lines text.now) ≤ most_functions) × (total (lines text.now) ≤ most_symbols) }
+    requires noted { (names.now ≡ map name_number (lines text.now)) × (heads.now ≡ map line_signature (lines text.now)) }
     requires room { Room (lines text.now) bodies.old words.old values.old ends.old }
     ensures { Outcome (after_names text.now) words.new values.new ends.new heads.now bodies.new result }
 {
@@ -114,8 +114,8 @@ fn read_counted(
     values: &mut [u32],
     ends: &mut [u32],
 ) -> Checked
-    requires text_len_bound { (length text.now ≤ most_bytes) × Right (raw_lines text.now) × (0 < length (lines text.now)) × (length (lines text.now) ≤ most_functions) × (total (lines text.now) ≤ most_symbols) }
-    requires names_value { (names.now ≡ map name_number (lines text.now)) × (heads.now ≡ map line_signature (lines text.now)) }
+    requires shape { (length text.now ≤ most_bytes) × Right (raw_lines text.now) × (0 < length (lines text.now)) × (length (lines text.now) ≤ most_functions) × (total (lines text.now) ≤ most_symbols) }
+    requires noted { (names.now ≡ map name_number (lines text.now)) × (heads.now ≡ map line_signature (lines text.now)) }
     requires room { Room (lines text.now) bodies.old words.old values.old ends.old }
     ensures { Outcome (after_counts text.now) words.new values.new ends.new heads.now bodies.new result }
 {
@@ -137,7 +137,7 @@ fn read_shaped(
     values: &mut [u32],
     ends: &mut [u32],
 ) -> Checked
-    requires text_len_bound { (length text.now ≤ most_bytes) × (judge_shape text.now ≡ fine tt) × (functions ≡ length (lines text.now)) × (symbols ≡ total (lines text.now)) }
+    requires shape { (length text.now ≤ most_bytes) × (judge_shape text.now ≡ fine tt) × (functions ≡ length (lines text.now)) × (symbols ≡ total (lines text.now)) }
     requires noted { Noted (lines text.now) names.now heads.now × Fit text.now names.now heads.now bodies.old words.old values.old ends.old }
     ensures { Outcome (after_shape text.now) words.new values.new ends.new heads.now bodies.new result }
 {
