@@ -190,34 +190,3 @@ pub fn run(text: &[u8], args: &[u32], limit: u32, code: &mut [u32], work: &mut [
     }
     run_long(text, args, limit, code, work)
 }
-
-// The same three for a caller in C, declared in include/nespralha.h: a slice is a pointer and a length.
-#[unsafe(no_mangle)]
-pub extern "C" fn nespralha_check(text: &[u8], heads: &mut [Head]) -> Checked
-    ensures { (result ≡ check_answer text.now (length heads.old)) × (heads.new ≡ check_heads text.now heads.old) }
-{
-    check(text, heads)
-}
-
-#[unsafe(no_mangle)]
-pub extern "C" fn nespralha_translate(text: &[u8], code: &mut [u32]) -> Checked
-    ensures answer { result ≡ translate_answer text.now (length code.old) }
-    ensures code { code.new ≡ translate_code text.now code.old }
-{
-    translate(text, code)
-}
-
-#[unsafe(no_mangle)]
-pub extern "C" fn nespralha_run(
-    text: &[u8],
-    args: &[u32],
-    limit: u32,
-    code: &mut [u32],
-    work: &mut [u32],
-) -> Answer
-    ensures answer { result ≡ run_answer text.now args.now limit (length code.old) (length work.old) }
-    ensures code { code.new ≡ run_code text.now args.now code.old (length work.old) }
-    ensures work { work.new ≡ run_work text.now args.now (length code.old) work.old }
-{
-    run(text, args, limit, code, work)
-}
