@@ -1,12 +1,6 @@
--- What holds at each turn of the loop of `listed::list_all`, and its measure. Assumes nothing.
-use borrow.Author.Rules.{rules}
-use mathlib.Core.Path.{◌≡◌}
-use Prim.Native.Nat.{◌-◌}
-use lib.ListN.{length}
+-- How far the loop of `listed::list_all` has still to go. Assumes nothing.
+use Rattle.std.proofs.Common.{◌-◌, length}
 use Rattle.listed.proofs.list_all.Given as goal
 
-abbrev pub invariant-loop-at : goal.invariant-loop-at
-invariant-loop-at l = length l.initial.at ≡ length l.input
-
 abbrev pub decreases-loop-at : goal.decreases-loop-at
-decreases-loop-at l = length l.rt - l.code
+decreases-loop-at g l = length l.input - l.at
