@@ -8,7 +8,7 @@ use lib.ListN.{length, get_or, take, drop, set, length-set, get_or-append}
 use lib.Seq.{get_or-set_other, drop-set-lt, length-take-le, get_or-take, get_or-drop, get_or-append-add, drop-drop}
 use borrow.Rule.Slice.PartMut.{mid_of, post_of, put_mid, mid_len, same_len_mid, drop_put}
 use Rattle.meaning.specs.Numbers.{most_height, most_arguments, work_words}
-use Rattle.meaning.specs.Machine.{value, waiting, at, call_body}
+use Rattle.meaning.specs.Machine.{value, waiting, call_body}
 use Rattle.layout.specs.Decoding.{row}
 use Rattle.layout.specs.Layout.{level_words, return_word, link_word, strict_word, size_word, slot_words, values_from, cell, frame, chain, environments, returns, stored, values, Good, Comes}
 use Rattle.layout.proofs.Rows.{row_same}

@@ -1,7 +1,7 @@
 -- The laws over any modulus. Assumes nothing.
 use mathlib.Core.Path.{◌≡◌, refl, ap, ap₂, sym, ◌∙◌}
-use mathlib.Core.List.{List, [], ◌∷◌, ◌++◌, map}
-use Prim.Native.Nat.{ℕ, zero, suc, ◌+◌, ◌-◌, ◌%◌, ◌≤◌, ◌<◌}
+use mathlib.Core.List.{List, [], ◌∷◌, ◌++◌}
+use Prim.Native.Nat.{ℕ, ◌+◌, ◌-◌, ◌%◌, ◌≤◌, ◌<◌}
 use native.Mathlib.Nat.{add-mod, mod-add-mod, add-mod-mod, add-mod_right, mod_self, mod-lt, mod-eq_of_lt, add_assoc}
 use native.Mathlib.Omega.{arith}
 use Rattle.hours.specs.Hours.{hourly, plain_sum, added_up, last, less_modulo, AllBelow, EachUseBelow, shown}

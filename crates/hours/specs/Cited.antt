@@ -1,12 +1,11 @@
 -- The laws of Hours for 2^32, with the `-` of rule texts, and for the values that Run answers for DIF; and what breaks without the conditions: the hours that were lost. Assumes nothing.
-use Rattle.std.specs.Prelude.{◌≡◌, refl, List, [], ◌∷◌, ◌++◌, map, ℕ, ◌+◌, ◌-◌, ◌^◌, ◌%◌, ◌≤◌, ◌<◌}
+use Rattle.std.specs.Prelude.{◌≡◌, refl, List, [], ◌∷◌, ◌++◌, ℕ, ◌-◌, ◌^◌, ◌≤◌}
 use Rattle.meaning.specs.Basics.{bytes}
 use Rattle.meaning.specs.Numbers.{work_words}
 use Rattle.meaning.specs.Arithmetic.{modulus, difference}
 use Rattle.meaning.specs.Program.{most_code_words}
 use Rattle.meaning.specs.Answers.{run_answer}
-use Rattle.meaning.specs.declared.Answer.{Answer}
-use Rattle.hours.specs.Hours.{Hours, HoursAddUp, TrueUse, AllBelow, last, added_up, shown, hourly, plain_sum, less_modulo}
+use Rattle.hours.specs.Hours.{Hours, HoursAddUp, last, added_up, shown, hourly, less_modulo}
 
 -- `for_32_bits`: all four, with meaning's `difference`. `for_64_bits`: the same of a Counter64.
 abbrev pub For32Bits : Type 0

@@ -1,18 +1,18 @@
 -- The statements of specs/Theorems.antt, proved. Assumes nothing.
-use mathlib.Core.Path.{◌≡◌, refl, ap, sym, ◌∙◌, subst}
+use mathlib.Core.Path.{◌≡◌, ap, sym, ◌∙◌}
 use mathlib.Core.Logic.{◌⊎◌, inl, inr, ◌↔◌}
 use mathlib.Core.List.{List}
-use Prim.Native.Nat.{ℕ, ◌≤◌}
+use Prim.Native.Nat.{ℕ}
 use native.Mathlib.Omega.{arith}
 use lib.ListN.{length}
 use Rattle.meaning.specs.Numbers.{Number}
 use Rattle.meaning.specs.Text.{Verdict, fine, refused}
-use Rattle.meaning.specs.Terms.{Program, wrong_number}
+use Rattle.meaning.specs.Terms.{Program}
 use Rattle.meaning.specs.Check.{check}
-use Rattle.meaning.specs.Answers.{checked, with_heads, with_code, answered, cleared, admit_check, admit_translate, admit_run, check_answer, check_heads, translate_answer, translate_code, run_answer, run_code, run_work}
+use Rattle.meaning.specs.Answers.{with_heads, with_code, cleared, admit_check, admit_translate, admit_run, check_answer, check_heads, translate_answer, translate_code, run_answer, run_code, run_work}
 use Rattle.meaning.specs.declared.Checked.{Checked}
 use Rattle.meaning.specs.declared.Answer.{Answer}
-use Rattle.renumbered.specs.Before.{before, check_by, admit_check_by, admit_translate_by, admit_run_by, check_answer_by, translate_answer_by, run_answer_by}
+use Rattle.renumbered.specs.Before.{before, check_by, admit_check_by, admit_translate_by, admit_run_by}
 use Rattle.renumbered.specs.Theorems.{Told, CheckedAlike, AnsweredAlike, AcceptedAsBefore, AnswersAsBefore, MemoryAsBefore, RefusedAsBefore, ByOurTable}
 use Rattle.renumbered.proofs.Verdicts.{Alike, alike_itself, alike_bind, alike_check, same_check, alike_checked, alike_answered, alike_written, no_heads, no_code, no_work}
 

@@ -1,13 +1,10 @@
 -- Verdicts by two tables agree but for the number: through tests, bodies and texts to the answers. Assumes nothing.
-use mathlib.Core.Path.{◌≡◌, refl, ap, sym, ◌∙◌, subst}
+use mathlib.Core.Path.{◌≡◌, refl, ap, subst}
 use mathlib.Core.Logic.{◌⊎◌, inl, inr}
-use mathlib.Core.Bool.{◌&&◌}
 use mathlib.Core.List.{List, [], ◌∷◌, map}
-use Prim.Native.Nat.{ℕ, ◌+◌, ◌≤◌}
+use Prim.Native.Nat.{ℕ, ◌+◌}
 use native.Mathlib.Omega.{arith}
-use lib.Dec.{leb}
-use lib.ListN.{length}
-use Rattle.meaning.specs.Numbers.{Number, no, work_words}
+use Rattle.meaning.specs.Numbers.{Number, no}
 use Rattle.meaning.specs.Text.{Verdict, fine, refused, ◌>>=◌, ◌>>◌, Line, lines, judge_length, judge_shape, judge_counts, judge_names}
 use Rattle.meaning.specs.Terms.{Term, Program, Read, got, fault, read_body, wrong_number, function_of, read_bodies}
 use Rattle.meaning.specs.Check.{check}

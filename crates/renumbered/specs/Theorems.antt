@@ -1,6 +1,6 @@
 -- Document 02, c): "Places stay as they are .. and leave memory as 5 does". What a caller of the engine before request c) sees of it, from the bytes of a
 -- text to the fields of the answers and the lent slices. proofs/Numbers.antt proves each statement under the name that its comment gives. Assumes nothing.
-use Rattle.std.specs.Prelude.{◌≡◌, ◌⊎◌, ◌↔◌, List, ℕ, ◌≤◌, length}
+use Rattle.std.specs.Prelude.{◌≡◌, ◌⊎◌, ◌↔◌, List, ℕ, ◌≤◌}
 use Rattle.meaning.specs.Text.{fine}
 use Rattle.meaning.specs.Terms.{Program, wrong_number}
 use Rattle.meaning.specs.Check.{check}

@@ -5,7 +5,7 @@ use mathlib.Core.Bool.{Bool, true, false, ◌&&◌, ◌||◌}
 use Prim.Native.Nat.{ℕ, suc, ◌+◌, ◌<◌, ◌≤◌}
 use native.Mathlib.Omega.{arith}
 use lib.Dec.{ltb, leb, eqb}
-use lib.ListN.{length, get_or}
+use lib.ListN.{length}
 use borrow.Author.Tests.{ne_eqb, ltb-true, leb-true}
 use Rattle.meaning.specs.Basics.{if◌then◌else◌, all, between, bytes}
 use Rattle.meaning.specs.Arithmetic.{number, yes_no, constant}

@@ -13,7 +13,7 @@ use Rattle.meaning.specs.Machine.{Environment, Place, stop, at, State, state, ne
 use Rattle.theorems.specs.Unlimited.{step, code_of, start_of, machine_after, has_stopped, value_of, data_height, return_height}
 use Rattle.theorems.specs.Limits.{first_too_high, LowUntil, Passes, Stops, DividesByZero, DividesInLimits, StopsInLimits, MeetsStepLimit, MeetsHeightLimit}
 use Rattle.theorems.proofs.Splitting.{clash}
-use Rattle.theorems.proofs.Courses.{Goes, stay, timed, ◌▸◌, stepped, stops_once, before_stop, has_step_before_stop, stop_or_division, up_to_division, divides_once, step_to_division, Divides, divides_at, after_of, course_of, last_step}
+use Rattle.theorems.proofs.Courses.{Goes, stay, timed, ◌▸◌, stepped, stops_once, before_stop, has_step_before_stop, stop_or_division, up_to_division, divides_once, step_to_division, divides_at, after_of, course_of, last_step}
 use Rattle.theorems.proofs.Limits.{Low, low_of, not_high_of, too_high_of, just_too_high, run_along, run_stopped, run_fuel, run_deep, run_zero, Says, halted, fuelled, deepened, jammed, zeroed, says}
 use Rattle.theorems.proofs.Wholes.{stops_of, stop_course}
 

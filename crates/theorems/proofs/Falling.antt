@@ -1,18 +1,18 @@
 -- Falls and leftmost rewriting agree: the term of a fall meets a division by 0 after the fall's rewrites, and where a TermSorted term meets one there is a fall
 -- with as many. Assumes nothing.
-use mathlib.Core.Path.{◌≡◌, refl, sym, ◌∙◌, subst}
+use mathlib.Core.Path.{◌≡◌, refl, subst}
 use mathlib.Core.Logic.{inl, inr}
-use mathlib.Core.Option.{Option, some}
+use mathlib.Core.Option.{some}
 use mathlib.Core.List.{List, [], ◌∷◌}
 use Prim.Native.Nat.{ℕ, zero, suc, ◌≤◌, ◌<◌}
 use native.Mathlib.Omega.{arith}
 use lib.ListN.{take, get_elem?}
 use Rattle.meaning.specs.Arithmetic.{Sort, yes_no, domain}
 use Rattle.meaning.specs.Terms.{Term, arg, op, cond, call, Terms, nil, cons, Function, Program}
-use Rattle.meaning.specs.Rewriting.{val, Closeds, none_left, and_then, ◌followed_by◌, argument, put_in, put_all_in, vals, rewrite}
-use Rattle.theorems.proofs.Breaking.{Breaks, RowBreaks, breaks_counted, first_breaks, later_breaks, operand_breaks, division_breaks, condition_breaks, yes_breaks, no_breaks, strict_breaks, body_breaks, value_whole, none_whole, op_broken, cond_broken, call_broken, row_parted}
-use Rattle.theorems.proofs.Trees.{Argument, given, waits, Chain, bottom, push, all_wait, call_frame, Tree, Row, cost, row_cost, Fall, in_waiting, in_operand, divides, in_condition, in_yes_branch, in_no_branch, in_strict, in_body, RowFall, at_first, at_later, fall_cost, row_fall_cost}
-use Rattle.theorems.proofs.Sorts.{OfSort, OfSorts, TermSorted, RowSorted, Sorted, ArgumentSorted, FrameSorted, ChainSorted, value_there, argument_there, call_frame_sorted}
+use Rattle.meaning.specs.Rewriting.{◌followed_by◌, argument, put_in, put_all_in, vals}
+use Rattle.theorems.proofs.Breaking.{Breaks, RowBreaks, first_breaks, later_breaks, operand_breaks, division_breaks, condition_breaks, yes_breaks, no_breaks, strict_breaks, body_breaks, value_whole, none_whole, op_broken, cond_broken, call_broken, row_parted}
+use Rattle.theorems.proofs.Trees.{Argument, given, waits, Chain, bottom, push, call_frame, Fall, in_waiting, in_operand, divides, in_condition, in_yes_branch, in_no_branch, in_strict, in_body, RowFall, at_first, at_later, fall_cost, row_fall_cost}
+use Rattle.theorems.proofs.Sorts.{OfSorts, TermSorted, RowSorted, Sorted, ArgumentSorted, ChainSorted, value_there, argument_there, call_frame_sorted}
 use Rattle.theorems.proofs.Agreement.{frame_read, chain_read, entry_read, given_read, waits_read, call_frame_read, tree_leads, row_tree_leads, any_found, any_row_found, one_function}
 
 -- From falls to rewriting.

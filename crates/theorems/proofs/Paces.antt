@@ -15,7 +15,7 @@ use Rattle.meaning.specs.Code.{Instruction, EVAL, EXEC, SELECT, CALL, RET}
 use Rattle.meaning.specs.Machine.{Slot, value, waiting, Frame, Environment, Place, stop, at, State, state, next, taken, look_at, look_up, push_result, execute, choose, enter, call_body, go_back, obey, rewrites, start}
 use Rattle.theorems.proofs.Splitting.{clash}
 use Rattle.theorems.proofs.Sorts.{two_at_most}
-use Rattle.theorems.proofs.Courses.{Goes, stay, go, timed, next_same}
+use Rattle.theorems.proofs.Courses.{Goes, stay, go, next_same}
 use Rattle.theorems.proofs.Targets.{Works, AllWork, Leading}
 
 -- A frame in which nothing waits.

@@ -2,9 +2,9 @@
 -- So rewriting an accepted text's entry call never comes to a term that no rule fits. Assumes nothing.
 use mathlib.Core.Path.{◌≡◌, refl, ap, ◌∙◌, subst}
 use mathlib.Core.Logic.{◌⊎◌, inl, inr}
-use mathlib.Core.Option.{Option, some}
+use mathlib.Core.Option.{some}
 use mathlib.Core.List.{List, [], ◌∷◌, ◌++◌}
-use Prim.Native.Nat.{ℕ, zero, suc, ◌≤◌, ◌<◌}
+use Prim.Native.Nat.{ℕ, zero, suc, ◌≤◌}
 use native.Mathlib.Omega.{arith}
 use lib.ListN.{take, drop, get_elem?, take-append-drop}
 use Rattle.meaning.specs.Arithmetic.{Sort, yes_no, Op, Applied, gives, by_zero, unfit, apply, domain, range}

@@ -1,19 +1,18 @@
 -- The code of an accepted program leads to RET only where a value has just come up: a branch, a body and a waiting argument are never entered at RET. And
 -- no call takes more than eight values. Assumes nothing.
-use mathlib.Core.Path.{◌≡◌, refl, ap, sym, ◌∙◌, subst}
+use mathlib.Core.Path.{◌≡◌, refl, subst}
 use mathlib.Core.Option.{Option, none, some}
 use mathlib.Core.List.{List, [], ◌∷◌, ◌++◌}
 use Prim.Native.Nat.{ℕ, zero, suc, ◌+◌, ◌≤◌}
-use native.Mathlib.Omega.{arith}
-use lib.ListN.{get_or, get_elem?, take}
+use lib.ListN.{get_elem?, take}
 use Rattle.meaning.specs.Arithmetic.{Sort, yes_no, domain}
 use Rattle.meaning.specs.Numbers.{most_arguments}
 use Rattle.meaning.specs.Terms.{Term, arg, op, cond, call, Terms, nil, cons, Function, Program}
-use Rattle.meaning.specs.Code.{size, sizes, count, entrance, row_entrance, entrances, Instruction, EVAL, EXEC, SELECT, CALL, RET, code, strict_code, waiting_code, bodies_code, initial, ret_address, translation}
+use Rattle.meaning.specs.Code.{size, sizes, entrance, row_entrance, entrances, Instruction, EVAL, EXEC, SELECT, CALL, RET, code, strict_code, waiting_code, bodies_code, initial, ret_address, translation}
 use Rattle.theorems.specs.Unlimited.{code_of}
 use Rattle.theorems.proofs.Splitting.{clash}
 use Rattle.theorems.proofs.Sorts.{TermSorted, RowSorted, Sorted, few_strict}
-use Rattle.theorems.proofs.Holding.{HoldsTerm, HoldsStrict, HoldsWaiting, Loaded, entries_of, loaded, initial_held, BodiesHeld, all_bodies_held}
+use Rattle.theorems.proofs.Holding.{HoldsTerm, HoldsStrict, HoldsWaiting, Loaded, loaded, initial_held, BodiesHeld, all_bodies_held}
 use Rattle.theorems.proofs.Acceptance.{WellMade}
 
 -- Another instruction than RET.

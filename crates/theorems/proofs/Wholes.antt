@@ -4,7 +4,7 @@ use mathlib.Core.Path.{◌≡◌, refl, ap, sym, subst, subst₂}
 use mathlib.Core.Logic.{◌⊎◌, inl, inr}
 use mathlib.Core.Bool.{true}
 use mathlib.Core.List.{List, [], ◌∷◌}
-use Prim.Native.Nat.{ℕ, suc, ◌+◌, ◌≤◌}
+use Prim.Native.Nat.{ℕ, suc, ◌≤◌}
 use native.Mathlib.Omega.{arith}
 use Rattle.meaning.specs.Terms.{Program}
 use Rattle.meaning.specs.Code.{entrance, initial, ret_address}
@@ -21,7 +21,7 @@ use Rattle.theorems.proofs.Agreement.{chain_read, tree_leads, tree_found}
 use Rattle.theorems.proofs.Falling.{fall_breaks, fall_found}
 use Rattle.theorems.proofs.Targets.{all_lead, start_works}
 use Rattle.theorems.proofs.Paces.{PacedAt, course_paced, start_paced, stop_bound}
-use Rattle.theorems.proofs.Courses.{Comes, comes, ◌▹◌, counting, Divides, divides_at, divides_counting, divides_once, up_to_division, stop_or_division, step_to_division, Goes, timed, ◌▸◌, begins, stops_once, not_past_stop, has_step, has_step_before_stop, after_of, course_of}
+use Rattle.theorems.proofs.Courses.{Comes, comes, ◌▹◌, counting, Divides, divides_at, divides_counting, divides_once, up_to_division, stop_or_division, step_to_division, Goes, timed, begins, stops_once, not_past_stop, has_step, has_step_before_stop, after_of, course_of}
 use Rattle.theorems.proofs.Holding.{loaded, initial_held}
 use Rattle.theorems.proofs.ToMachine.{of_bottom, return_step, tree_goes, fall_goes}
 use Rattle.theorems.proofs.FromMachine.{Within, found, goes_on, Value, value_within}

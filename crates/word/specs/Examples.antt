@@ -1,7 +1,6 @@
 -- The examples of the arithmetic page (src/lib.rt), in its order, computed: operation by number, two values, result. Assumes nothing.
-use Rattle.std.specs.Prelude.{◌≡◌, refl, List, [], ◌∷◌, ℕ}
+use Rattle.std.specs.Prelude.{◌≡◌, refl, [], ◌∷◌}
 use Rattle.meaning.specs.Arithmetic.{sum, difference, product, quotient, remainder, equal, less, both, either, opposite}
-use Rattle.word.specs.declared.Worked.{Worked}
 use Rattle.word.specs.declared.Worked.TheVariants.{Value, ByZero}
 use Rattle.word.specs.Operated.{divides, operated}
 

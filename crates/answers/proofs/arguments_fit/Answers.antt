@@ -1,7 +1,6 @@
 -- `answers::arguments_fit` meets its contract. Assumes nothing.
 use borrow.Author.Tests.{eq-eqb, ne_eqb}
 use Rattle.answers.specs.Fitting.{fits_signature}
-use borrow.Author.Rules.{rules}
 use Rattle.answers.proofs.arguments_fit.Goals as goal
 
 pub returns-then-args-count : goal.returns-then-args-count

@@ -1,6 +1,5 @@
 -- `answers::check_table` meets its contract. Assumes nothing.
 use mathlib.Core.Path.{refl}
-use borrow.Author.Rules.{rules}
 use Rattle.answers.proofs.Laws as laws
 use Rattle.answers.proofs.check_table.Goals as goal
 

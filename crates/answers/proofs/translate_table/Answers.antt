@@ -1,5 +1,4 @@
 -- `answers::translate_table` meets its contract. Assumes nothing.
-use borrow.Author.Rules.{rules}
 use Rattle.answers.proofs.Laws as laws
 use Rattle.answers.proofs.translate_table.Goals as goal
 

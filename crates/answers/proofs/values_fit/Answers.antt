@@ -1,10 +1,6 @@
 -- `answers::values_fit` meets its contract. Assumes nothing.
-use Rattle.answers.specs.Fitting.{masked}
-use borrow.Author.Rules.{rules}
 use native.Mathlib.Omega.{arith}
-use mathlib.Core.Path.{◌≡◌, ◌∙◌}
-use Prim.Native.Nat.{◌-◌}
-use lib.ListN.{length, drop}
+use mathlib.Core.Path.{◌∙◌}
 use Rattle.answers.proofs.Laws as laws
 use Rattle.answers.proofs.values_fit.Goals as goal
 

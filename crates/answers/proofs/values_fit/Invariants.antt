@@ -1,11 +1,8 @@
 -- What holds at each turn of the loop of `answers::values_fit`, and its measure. Assumes nothing.
 use Rattle.answers.specs.Fitting.{masked}
-use borrow.Author.Rules.{rules}
-use native.Mathlib.Omega.{arith}
-use mathlib.Core.Path.{◌≡◌, ◌∙◌}
+use mathlib.Core.Path.{◌≡◌}
 use Prim.Native.Nat.{◌-◌}
 use lib.ListN.{length, drop}
-use Rattle.answers.proofs.Laws as laws
 use Rattle.answers.proofs.values_fit.Given as goal
 
 abbrev pub invariant-loop-i : goal.invariant-loop-i

@@ -4,10 +4,8 @@ use Rattle.meaning.specs.Text.{lines}
 use Rattle.lines.specs.Lines.{name_number, line_signature}
 use Rattle.lines.proofs.Laws as lines-laws
 use Rattle.bodies.proofs.Laws as laws
-use borrow.Author.Rules.{rules}
 use native.Mathlib.Omega.{arith}
-use mathlib.Core.Path.{refl, ap, ◌∙◌}
-use Prim.Native.Nat.{ℕ, ◌-◌, ◌<◌}
+use mathlib.Core.Path.{refl, ap}
 use Rattle.bodies.proofs.+read_lines.Goals as goal
 
 pub returns-then-text-at : goal.returns-then-text-at

@@ -1,15 +1,10 @@
 -- `bodies::fill` meets its contract. Assumes nothing.
 use native.Mathlib.Omega.{arith}
-use mathlib.Core.Path.{◌≡◌, refl, ap, ◌∙◌}
-use Prim.Native.Nat.{◌+◌, ◌-◌}
-use lib.ListN.{length, drop}
+use mathlib.Core.Path.{refl, ap, ◌∙◌}
+use lib.ListN.{length}
 use Rattle.fields.proofs.Laws as fields-laws
-use Rattle.fields.specs.Fields.{rest}
 use Rattle.lines.proofs.Splice as splices
-use Rattle.lines.specs.Splice.{splice}
-use Rattle.bodies.specs.Bodies.{words_by, values_by}
 use Rattle.bodies.proofs.Laws as laws
-use borrow.Author.Rules.{rules}
 use Rattle.bodies.proofs.fill.Goals as goal
 
 pub loop-i-init : goal.loop-i-init

@@ -1,15 +1,10 @@
 -- What holds at each turn of the loop of `bodies::fill`, and its measure. Assumes nothing.
-use native.Mathlib.Omega.{arith}
-use mathlib.Core.Path.{◌≡◌, refl, ap, ◌∙◌}
+use mathlib.Core.Path.{◌≡◌}
 use Prim.Native.Nat.{◌+◌, ◌-◌}
 use lib.ListN.{length, drop}
-use Rattle.fields.proofs.Laws as fields-laws
 use Rattle.fields.specs.Fields.{rest}
-use Rattle.lines.proofs.Splice as splices
 use Rattle.lines.specs.Splice.{splice}
 use Rattle.bodies.specs.Bodies.{words_by, values_by}
-use Rattle.bodies.proofs.Laws as laws
-use borrow.Author.Rules.{rules}
 use Rattle.bodies.proofs.fill.Given as goal
 
 abbrev pub invariant-loop-i : goal.invariant-loop-i

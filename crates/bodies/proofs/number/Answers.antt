@@ -1,7 +1,6 @@
 -- `bodies::number` meets its contract. Assumes nothing.
 use Rattle.meaning.specs.Numbers.{no}
 use Rattle.meaning.specs.Terms.{wrong_number}
-use borrow.Author.Rules.{rules}
 use Rattle.bodies.proofs.number.Goals as goal
 
 pub returns-in-UnknownSymbol : goal.returns-in-UnknownSymbol

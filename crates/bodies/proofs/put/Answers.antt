@@ -1,6 +1,5 @@
 -- `bodies::put` meets its contract. Assumes nothing.
 use Rattle.bodies.proofs.Laws as laws
-use borrow.Author.Rules.{rules}
 use Rattle.bodies.proofs.put.Goals as goal
 
 pub returns-in-Known : goal.returns-in-Known

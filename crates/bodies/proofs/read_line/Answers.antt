@@ -1,7 +1,6 @@
 -- `bodies::read_line` meets its contract. Assumes nothing.
 use native.Mathlib.Omega.{arith}
 use Rattle.bodies.proofs.Laws as laws
-use borrow.Author.Rules.{rules}
 use Rattle.bodies.proofs.read_line.Goals as goal
 
 pub tabs_of-t-requires : goal.tabs_of-t-requires

@@ -1,12 +1,8 @@
 -- `coding::emit_args` and `coding::emit_row` and `coding::emit_term` meet their contracts. Assumes nothing.
-use mathlib.Core.List.{List}
-use Rattle.coding.specs.Coding.{EmittedRow}
 use Rattle.coding.proofs.Emitting as laws
 use borrow.Author.Rules.{rules}
 use native.Mathlib.Omega.{arith}
-use mathlib.Core.Path.{◌≡◌, refl}
-use Prim.Native.Nat.{ℕ, ◌+◌, ◌-◌, ◌*◌, ◌<◌}
-use lib.ListN.{length}
+use mathlib.Core.Path.{refl}
 use Rattle.coding.proofs.+emit_args_emit_row_emit_term.Goals as goal
 
 pub emit_args-returns-then-end-at : goal.emit_args-returns-then-end-at
@@ -24,13 +20,12 @@ pub emit_row-returns-then-past-a : goal.emit_row-returns-then-past-a
 emit_row-returns-then-past-a t c = c.loop-a.invariant.1 _ (laws.row_stuck _ _ _ _ _ _ _ _ _ _ _ _ _ c.loop-a-test.true c.word_at-past.ensures c.if-past-a.true)
 
 pub emit_row-loop-a-preserved : goal.emit_row-loop-a-preserved
-emit_row-loop-a-preserved t c =
-    (
-      search rules,
-      λ c' p. c.loop-a.invariant.1 c'
-          (laws.row_more _ _ c.args.words.now _ c.args.ends.now c.loop-a.a c.args.end c.loop-a.left _ _ c.args.depth c.loop-a.code _ _ _ _ _
-          c.loop-a-test.true (omega (arith, c.requires.1, c.loop-a.invariant.0)) c.word_at-past.ensures c.follower-next.ensures c.emit_term.ensures c.less-left.ensures p),
-    )
+emit_row-loop-a-preserved t c = (
+  search rules,
+  λ c' p. c.loop-a.invariant.1 c'
+      (laws.row_more _ _ c.args.words.now _ c.args.ends.now c.loop-a.a c.args.end c.loop-a.left _ _ c.args.depth c.loop-a.code _ _ _ _ _
+      c.loop-a-test.true (omega (arith, c.requires.1, c.loop-a.invariant.0)) c.word_at-past.ensures c.follower-next.ensures c.emit_term.ensures c.less-left.ensures p),
+)
 
 pub emit_row-returns : goal.emit_row-returns
 emit_row-returns t c = c.loop-a.invariant.1 _ (laws.row_end _ _ _ _ _ _ _ _ _ _ _ _ c.loop-a-test.false)

@@ -16,8 +16,8 @@ decreases-emit_term l = 3 * l.depth + 2
 abbrev pub invariant-emit_row-loop-a : goal.invariant-emit_row-loop-a
 invariant-emit_row-loop-a l =
     (length l.code ≡ length l.initial.code) ×
-        ((c' : List ℕ) → EmittedRow l.heads l.bodies l.words l.values l.ends l.a l.end l.left l.home l.others l.depth l.code c' →
-            EmittedRow l.heads l.bodies l.words l.values l.ends l.at l.end l.lead l.home l.others l.depth l.initial.code c')
+    ((c' : List ℕ) → EmittedRow l.heads l.bodies l.words l.values l.ends l.a l.end l.left l.home l.others l.depth l.code c' →
+    EmittedRow l.heads l.bodies l.words l.values l.ends l.at l.end l.lead l.home l.others l.depth l.initial.code c')
 
 abbrev pub decreases-emit_row-loop-a : goal.decreases-emit_row-loop-a
 decreases-emit_row-loop-a l = l.end - l.a

@@ -4,7 +4,6 @@ use mathlib.Core.Path.{sym}
 use native.Mathlib.Omega.{arith}
 use lib.Seq.{length-take-le}
 use Rattle.coding.proofs.Whole as laws
-use borrow.Author.Rules.{rules}
 use Rattle.coding.proofs.emit.Goals as goal
 
 pub returns-then-instructions-eq0 : goal.returns-then-instructions-eq0

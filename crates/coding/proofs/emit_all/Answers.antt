@@ -1,6 +1,5 @@
 -- `coding::emit_all` meets its contract. Assumes nothing.
 use Rattle.coding.proofs.Whole as laws
-use borrow.Author.Rules.{rules}
 use Rattle.coding.proofs.emit_all.Goals as goal
 
 pub returns : goal.returns

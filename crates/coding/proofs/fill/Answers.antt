@@ -1,11 +1,9 @@
 -- `coding::fill` meets its contract. Assumes nothing.
-use lib.ListN.{length-set, length, take, drop}
-use mathlib.Core.List.{◌++◌}
+use lib.ListN.{length-set, length}
 use Rattle.coding.proofs.Instructions as laws
 use borrow.Author.Rules.{rules}
 use native.Mathlib.Omega.{arith}
 use mathlib.Core.Path.{◌≡◌, refl}
-use Prim.Native.Nat.{◌-◌, ◌≤◌}
 use Rattle.coding.proofs.fill.Goals as goal
 
 pub loop-i-init : goal.loop-i-init

@@ -1,10 +1,7 @@
 -- What holds at each turn of the loop of `coding::fill`, and its measure. Assumes nothing.
-use lib.ListN.{length-set, length, take, drop}
+use lib.ListN.{length, take, drop}
 use mathlib.Core.List.{◌++◌}
-use Rattle.coding.proofs.Instructions as laws
-use borrow.Author.Rules.{rules}
-use native.Mathlib.Omega.{arith}
-use mathlib.Core.Path.{◌≡◌, refl}
+use mathlib.Core.Path.{◌≡◌}
 use Prim.Native.Nat.{◌-◌, ◌≤◌}
 use Rattle.coding.proofs.fill.Given as goal
 

@@ -1,6 +1,5 @@
 -- `coding::operation` meets its contract. Assumes nothing.
 use Rattle.coding.proofs.Instructions as laws
-use borrow.Author.Rules.{rules}
 use Rattle.coding.proofs.operation.Goals as goal
 
 pub returns-then-word-lt-FIRST_OPERATION : goal.returns-then-word-lt-FIRST_OPERATION

@@ -1,6 +1,5 @@
 -- `coding::plain` meets its contract. Assumes nothing.
 use Rattle.coding.proofs.Instructions as laws
-use borrow.Author.Rules.{rules}
 use Rattle.coding.proofs.plain.Goals as goal
 
 pub returns-then-word-lt-FIRST_ARGUMENT : goal.returns-then-word-lt-FIRST_ARGUMENT

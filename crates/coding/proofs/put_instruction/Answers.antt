@@ -1,6 +1,5 @@
 -- `coding::put_instruction` meets its contract. Assumes nothing.
 use Rattle.coding.proofs.Instructions as laws
-use borrow.Author.Rules.{rules}
 use Rattle.coding.proofs.put_instruction.Goals as goal
 
 pub returns-then-word-lt-COND : goal.returns-then-word-lt-COND

@@ -1,6 +1,5 @@
 -- `coding::select` meets its contract. Assumes nothing.
 use Rattle.coding.proofs.Instructions as laws
-use borrow.Author.Rules.{rules}
 use Rattle.coding.proofs.select.Goals as goal
 
 pub returns : goal.returns

@@ -1,7 +1,6 @@
 -- `console::respond` meets its contract. Assumes nothing.
 use mathlib.Core.Path.{ap, ◌∙◌}
 use Rattle.meaning.specs.Program.{printed}
-use borrow.Author.Rules.{rules}
 use Rattle.console.proofs.respond.Goals as goal
 
 pub returns : goal.returns

@@ -1,8 +1,6 @@
 -- `entrances::entrance` meets its contract. Assumes nothing.
 use Rattle.entrances.proofs.Laws as laws
-use borrow.Author.Rules.{rules}
 use mathlib.Core.Path.{sym, ◌∙◌}
-use Prim.Native.Nat.{ℕ, ◌<◌}
 use Rattle.entrances.proofs.+entrance.Goals as goal
 
 pub returns-then-depth-eq0 : goal.returns-then-depth-eq0

@@ -1,6 +1,5 @@
 -- `entrances::entry` meets its contract. Assumes nothing.
 use Rattle.entrances.proofs.Laws as laws
-use borrow.Author.Rules.{rules}
 use Rattle.entrances.proofs.entry.Goals as goal
 
 pub returns-then-word_at-lt-FIRST_OPERATION : goal.returns-then-word_at-lt-FIRST_OPERATION

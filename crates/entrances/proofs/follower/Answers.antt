@@ -1,6 +1,5 @@
 -- `entrances::follower` meets its contract. Assumes nothing.
 use Rattle.entrances.proofs.Laws as laws
-use borrow.Author.Rules.{rules}
 use Rattle.entrances.proofs.follower.Goals as goal
 
 pub returns-then-lead-eq0 : goal.returns-then-lead-eq0

@@ -1,6 +1,5 @@
 -- `entrances::leads` meets its contract. Assumes nothing.
 use Rattle.entrances.proofs.Laws as laws
-use borrow.Author.Rules.{rules}
 use Rattle.entrances.proofs.leads.Goals as goal
 
 pub returns-then-word-lt-FIRST_OPERATION : goal.returns-then-word-lt-FIRST_OPERATION

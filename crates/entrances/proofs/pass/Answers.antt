@@ -1,8 +1,5 @@
 -- `entrances::pass` meets its contract. Assumes nothing.
-use Rattle.entrances.specs.Entrances.{Passed}
 use Rattle.entrances.proofs.Laws as laws
-use borrow.Author.Rules.{rules}
-use Prim.Native.Nat.{ℕ}
 use Rattle.entrances.proofs.pass.Goals as goal
 
 pub loop-left-init : goal.loop-left-init

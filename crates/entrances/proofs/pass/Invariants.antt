@@ -1,7 +1,5 @@
 -- What holds at each turn of the loop of `entrances::pass`, and its measure. Assumes nothing.
 use Rattle.entrances.specs.Entrances.{Passed}
-use Rattle.entrances.proofs.Laws as laws
-use borrow.Author.Rules.{rules}
 use Prim.Native.Nat.{ℕ}
 use Rattle.entrances.proofs.pass.Given as goal
 

@@ -1,11 +1,8 @@
 -- `entrances::put_entrances` meets its contract. Assumes nothing.
-use lib.ListN.{length-set, length}
-use mathlib.Core.List.{List}
-use Rattle.entrances.specs.Entrances.{Entrances}
+use lib.ListN.{length-set}
 use Rattle.entrances.proofs.Laws as laws
 use borrow.Author.Rules.{rules}
-use mathlib.Core.Path.{◌≡◌, refl}
-use Prim.Native.Nat.{ℕ, ◌-◌}
+use mathlib.Core.Path.{refl}
 use Rattle.entrances.proofs.put_entrances.Goals as goal
 
 pub loop-a-init : goal.loop-a-init

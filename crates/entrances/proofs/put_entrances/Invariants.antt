@@ -1,10 +1,8 @@
 -- What holds at each turn of the loop of `entrances::put_entrances`, and its measure. Assumes nothing.
-use lib.ListN.{length-set, length}
+use lib.ListN.{length}
 use mathlib.Core.List.{List}
 use Rattle.entrances.specs.Entrances.{Entrances}
-use Rattle.entrances.proofs.Laws as laws
-use borrow.Author.Rules.{rules}
-use mathlib.Core.Path.{◌≡◌, refl}
+use mathlib.Core.Path.{◌≡◌}
 use Prim.Native.Nat.{ℕ, ◌-◌}
 use Rattle.entrances.proofs.put_entrances.Given as goal
 

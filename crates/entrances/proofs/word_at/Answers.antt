@@ -1,6 +1,5 @@
 -- `entrances::word_at` meets its contract. Assumes nothing.
 use Rattle.entrances.proofs.Laws as laws
-use borrow.Author.Rules.{rules}
 use Rattle.entrances.proofs.word_at.Goals as goal
 
 pub returns-else-i-words : goal.returns-else-i-words

@@ -1,7 +1,6 @@
 -- `fields::decimal_value` meets its contract. Assumes nothing.
 use mathlib.Core.Path.{◌∙◌}
 use Rattle.fields.proofs.Laws as laws
-use borrow.Author.Rules.{rules}
 use Rattle.fields.proofs.decimal_value.Goals as goal
 
 pub returns-then-f-eq0 : goal.returns-then-f-eq0

@@ -2,11 +2,10 @@
 use Rattle.fields.specs.declared.Decimal.TheVariants.{Value}
 use Rattle.fields.specs.Fields.{digits_from}
 use Rattle.fields.proofs.Laws as laws
-use borrow.Author.Rules.{rules}
 use native.Mathlib.Omega.{arith}
-use mathlib.Core.Path.{◌≡◌, ap, ◌∙◌}
-use Prim.Native.Nat.{ℕ, ◌+◌, ◌-◌, ◌*◌, ◌<◌}
-use lib.ListN.{length, drop}
+use mathlib.Core.Path.{ap, ◌∙◌}
+use Prim.Native.Nat.{ℕ, ◌+◌, ◌-◌, ◌*◌}
+use lib.ListN.{drop}
 use Rattle.fields.proofs.digits.Goals as goal
 
 pub returns-then-b-lt48 : goal.returns-then-b-lt48

@@ -1,11 +1,7 @@
 -- What holds at each turn of the loop of `fields::digits`, and its measure. Assumes nothing.
-use Rattle.fields.specs.declared.Decimal.TheVariants.{Value}
 use Rattle.fields.specs.Fields.{digits_from}
-use Rattle.fields.proofs.Laws as laws
-use borrow.Author.Rules.{rules}
-use native.Mathlib.Omega.{arith}
-use mathlib.Core.Path.{◌≡◌, ap, ◌∙◌}
-use Prim.Native.Nat.{ℕ, ◌+◌, ◌-◌, ◌*◌, ◌<◌}
+use mathlib.Core.Path.{◌≡◌}
+use Prim.Native.Nat.{◌-◌, ◌<◌}
 use lib.ListN.{length, drop}
 use Rattle.fields.proofs.digits.Given as goal
 

@@ -1,13 +1,8 @@
 -- `fields::name` meets its contract. Assumes nothing.
-use Rattle.meaning.specs.Text.{is_name}
-use Rattle.meaning.specs.Basics.{all}
 use Rattle.fields.specs.Fields.{is_name_byte}
 use Rattle.fields.proofs.Laws as laws
-use borrow.Author.Rules.{rules}
 use native.Mathlib.Omega.{arith}
-use mathlib.Core.Path.{◌≡◌, ◌∙◌}
-use Prim.Native.Nat.{◌-◌}
-use lib.ListN.{length, drop}
+use mathlib.Core.Path.{◌∙◌}
 use Rattle.fields.proofs.name.Goals as goal
 
 pub returns-then-f-eq0 : goal.returns-then-f-eq0

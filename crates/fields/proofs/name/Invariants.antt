@@ -2,10 +2,7 @@
 use Rattle.meaning.specs.Text.{is_name}
 use Rattle.meaning.specs.Basics.{all}
 use Rattle.fields.specs.Fields.{is_name_byte}
-use Rattle.fields.proofs.Laws as laws
-use borrow.Author.Rules.{rules}
-use native.Mathlib.Omega.{arith}
-use mathlib.Core.Path.{◌≡◌, ◌∙◌}
+use mathlib.Core.Path.{◌≡◌}
 use Prim.Native.Nat.{◌-◌}
 use lib.ListN.{length, drop}
 use Rattle.fields.proofs.name.Given as goal

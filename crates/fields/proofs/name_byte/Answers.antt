@@ -1,5 +1,4 @@
 -- `fields::name_byte` meets its contract. Assumes nothing.
-use borrow.Author.Rules.{rules}
 use Rattle.fields.proofs.name_byte.Goals as goal
 
 pub returns-then-capital : goal.returns-then-capital

@@ -1,11 +1,10 @@
 -- `fields::occurrences_of` meets its contract. Assumes nothing.
 use Rattle.fields.specs.Fields.{occurrences}
 use Rattle.fields.proofs.Laws as laws
-use borrow.Author.Rules.{rules}
 use native.Mathlib.Omega.{arith}
-use mathlib.Core.Path.{◌≡◌, sym, ap, ◌∙◌}
-use Prim.Native.Nat.{ℕ, ◌+◌, ◌-◌, ◌≤◌}
-use lib.ListN.{length, drop}
+use mathlib.Core.Path.{sym, ap, ◌∙◌}
+use Prim.Native.Nat.{ℕ, ◌+◌, ◌-◌}
+use lib.ListN.{length}
 use Rattle.fields.proofs.occurrences_of.Goals as goal
 
 pub loop-i-init : goal.loop-i-init

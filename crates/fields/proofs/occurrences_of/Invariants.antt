@@ -1,10 +1,7 @@
 -- What holds at each turn of the loop of `fields::occurrences_of`, and its measure. Assumes nothing.
 use Rattle.fields.specs.Fields.{occurrences}
-use Rattle.fields.proofs.Laws as laws
-use borrow.Author.Rules.{rules}
-use native.Mathlib.Omega.{arith}
-use mathlib.Core.Path.{◌≡◌, sym, ap, ◌∙◌}
-use Prim.Native.Nat.{ℕ, ◌+◌, ◌-◌, ◌≤◌}
+use mathlib.Core.Path.{◌≡◌}
+use Prim.Native.Nat.{◌+◌, ◌≤◌}
 use lib.ListN.{length, drop}
 use Rattle.fields.proofs.occurrences_of.Given as goal
 

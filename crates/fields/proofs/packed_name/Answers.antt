@@ -1,12 +1,10 @@
 -- `fields::packed_name` meets its contract. Assumes nothing.
-use Prim.Native.Nat.{◌^◌}
 use Rattle.fields.specs.Fields.{packed}
 use Rattle.fields.proofs.Laws as laws
-use borrow.Author.Rules.{rules}
 use native.Mathlib.Omega.{arith}
-use mathlib.Core.Path.{◌≡◌, ap, ◌∙◌}
-use Prim.Native.Nat.{◌-◌, ◌<◌, ◌≤◌}
-use lib.ListN.{length, drop}
+use mathlib.Core.Path.{ap, ◌∙◌}
+use Prim.Native.Nat.{◌-◌}
+use lib.ListN.{length}
 use Rattle.fields.proofs.packed_name.Goals as goal
 
 pub loop-i-init : goal.loop-i-init

@@ -1,10 +1,7 @@
 -- What holds at each turn of the loop of `fields::packed_name`, and its measure. Assumes nothing.
 use Prim.Native.Nat.{◌^◌}
 use Rattle.fields.specs.Fields.{packed}
-use Rattle.fields.proofs.Laws as laws
-use borrow.Author.Rules.{rules}
-use native.Mathlib.Omega.{arith}
-use mathlib.Core.Path.{◌≡◌, ap, ◌∙◌}
+use mathlib.Core.Path.{◌≡◌}
 use Prim.Native.Nat.{◌-◌, ◌<◌, ◌≤◌}
 use lib.ListN.{length, drop}
 use Rattle.fields.proofs.packed_name.Given as goal

@@ -1,5 +1,4 @@
 -- `fields::piece_end` meets its contract: what `reader::field` says, and that a span stays within the bytes. Assumes nothing.
-use borrow.Author.Rules.{rules}
 use native.Mathlib.Omega.{arith}
 use lib.ListN.{drop, length-drop}
 use Rattle.reader.proofs.Laws.{span_within}

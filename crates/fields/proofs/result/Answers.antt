@@ -1,7 +1,6 @@
 -- `fields::result` meets its contract. Assumes nothing.
 use mathlib.Core.Path.{◌∙◌}
 use Rattle.fields.proofs.Laws as laws
-use borrow.Author.Rules.{rules}
 use Rattle.fields.proofs.result.Goals as goal
 
 pub returns-then-f-eq1 : goal.returns-then-f-eq1

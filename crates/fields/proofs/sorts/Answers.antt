@@ -1,12 +1,8 @@
 -- `fields::sorts` meets its contract. Assumes nothing.
-use Rattle.meaning.specs.Text.{are_sorts, is_sort}
-use Rattle.meaning.specs.Basics.{all}
+use Rattle.meaning.specs.Text.{is_sort}
 use Rattle.fields.proofs.Laws as laws
-use borrow.Author.Rules.{rules}
 use native.Mathlib.Omega.{arith}
-use mathlib.Core.Path.{◌≡◌, ◌∙◌}
-use Prim.Native.Nat.{◌-◌}
-use lib.ListN.{length, drop}
+use mathlib.Core.Path.{◌∙◌}
 use Rattle.fields.proofs.sorts.Goals as goal
 
 pub returns-then-f-eq0 : goal.returns-then-f-eq0

@@ -1,10 +1,7 @@
 -- What holds at each turn of the loop of `fields::sorts`, and its measure. Assumes nothing.
 use Rattle.meaning.specs.Text.{are_sorts, is_sort}
 use Rattle.meaning.specs.Basics.{all}
-use Rattle.fields.proofs.Laws as laws
-use borrow.Author.Rules.{rules}
-use native.Mathlib.Omega.{arith}
-use mathlib.Core.Path.{◌≡◌, ◌∙◌}
+use mathlib.Core.Path.{◌≡◌}
 use Prim.Native.Nat.{◌-◌}
 use lib.ListN.{length, drop}
 use Rattle.fields.proofs.sorts.Given as goal

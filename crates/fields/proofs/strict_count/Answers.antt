@@ -2,7 +2,6 @@
 use mathlib.Core.Path.{ap, ◌∙◌}
 use Rattle.fields.specs.declared.Strict.TheVariants as strict
 use Rattle.fields.proofs.Laws as laws
-use borrow.Author.Rules.{rules}
 use Rattle.fields.proofs.strict_count.Goals as goal
 
 pub returns-then-f-ne1 : goal.returns-then-f-ne1

@@ -1,11 +1,7 @@
 -- src/lib.rt:75:5
-use Rattle.fields.specs.Fields.{visible_span}
 use Rattle.fields.proofs.Laws as laws
-use borrow.Author.Rules.{rules}
 use native.Mathlib.Omega.{arith}
-use mathlib.Core.Path.{◌≡◌, sym, ◌∙◌}
-use Prim.Native.Nat.{◌+◌, ◌-◌, ◌≤◌}
-use lib.ListN.{length, drop}
+use mathlib.Core.Path.{sym, ◌∙◌}
 use Rattle.fields.proofs.visible_end.Goals as goal
 
 pub loop-i-preserved : goal.loop-i-preserved

@@ -1,9 +1,6 @@
 -- What holds at each turn of the loop of `fields::visible_end`, and its measure. Assumes nothing.
 use Rattle.fields.specs.Fields.{visible_span}
-use Rattle.fields.proofs.Laws as laws
-use borrow.Author.Rules.{rules}
-use native.Mathlib.Omega.{arith}
-use mathlib.Core.Path.{◌≡◌, sym, ◌∙◌}
+use mathlib.Core.Path.{◌≡◌}
 use Prim.Native.Nat.{◌+◌, ◌-◌, ◌≤◌}
 use lib.ListN.{length, drop}
 use Rattle.fields.proofs.visible_end.Given as goal

@@ -1,5 +1,4 @@
 -- What holds at each turn of the loop of `figures::length_of`, and its measure. Assumes nothing.
-use borrow.Author.Rules.{rules}
 use Prim.Native.Nat.{◌<◌, ◌-◌}
 use lib.ListN.{length}
 use Rattle.figures.proofs.length_of.Given as goal

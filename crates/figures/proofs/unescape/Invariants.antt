@@ -1,9 +1,7 @@
 -- What holds at each turn of the loop of `figures::unescape`, and its measure. Assumes nothing.
-use borrow.Author.Rules.{rules}
-use mathlib.Core.Path.{◌≡◌, ◌∙◌}
-use native.Mathlib.Omega.{arith}
+use mathlib.Core.Path.{◌≡◌}
 use Prim.Native.Nat.{◌≤◌, ◌-◌}
-use lib.ListN.{length, length-set}
+use lib.ListN.{length}
 use Rattle.figures.proofs.unescape.Given as goal
 
 abbrev pub invariant-loop-i : goal.invariant-loop-i

@@ -1,12 +1,9 @@
 -- `frames::copy_entrances` meets its contract. Assumes nothing.
-use mathlib.Core.Path.{◌≡◌, refl}
-use Prim.Native.Nat.{◌-◌, ◌≤◌}
+use mathlib.Core.Path.{refl}
 use native.Mathlib.Omega.{arith}
-use lib.ListN.{length, length-set}
+use lib.ListN.{length-set}
 use borrow.Author.Rules.{rules}
-use Rattle.meaning.specs.Numbers.{most_arguments}
-use Rattle.frames.specs.Frames.{Copied}
-use Rattle.frames.proofs.Filling.{yet, copied_none, copied_stop, copied_all, copied_more}
+use Rattle.frames.proofs.Filling.{copied_none, copied_stop, copied_all, copied_more}
 use Rattle.frames.proofs.copy_entrances.Goals as goal
 
 pub loop-n-init : goal.loop-n-init

@@ -1,12 +1,10 @@
 -- What holds at each turn of the loop of `frames::copy_entrances`, and its measure. Assumes nothing.
-use mathlib.Core.Path.{◌≡◌, refl}
+use mathlib.Core.Path.{◌≡◌}
 use Prim.Native.Nat.{◌-◌, ◌≤◌}
-use native.Mathlib.Omega.{arith}
-use lib.ListN.{length, length-set}
-use borrow.Author.Rules.{rules}
+use lib.ListN.{length}
 use Rattle.meaning.specs.Numbers.{most_arguments}
 use Rattle.frames.specs.Frames.{Copied}
-use Rattle.frames.proofs.Filling.{yet, copied_none, copied_stop, copied_all, copied_more}
+use Rattle.frames.proofs.Filling.{yet}
 use Rattle.frames.proofs.copy_entrances.Given as goal
 
 abbrev pub invariant-loop-n : goal.invariant-loop-n

@@ -1,7 +1,5 @@
 -- `frames::enter` meets its contract. Assumes nothing.
 use Prim.Native.Nat.{◌-◌}
-use lib.ListN.{length-set}
-use borrow.Author.Rules.{rules}
 use Rattle.meaning.specs.Numbers.{most_arguments}
 use Rattle.layout.specs.Decoding.{row, leading}
 use Rattle.frames.proofs.Entering.{entered}

@@ -1,10 +1,8 @@
 -- `frames::move_values` meets its contract. Assumes nothing.
-use mathlib.Core.Path.{◌≡◌, refl}
-use Prim.Native.Nat.{◌-◌, ◌≤◌}
+use mathlib.Core.Path.{refl}
 use native.Mathlib.Omega.{arith}
-use lib.ListN.{length, length-set}
+use lib.ListN.{length-set}
 use borrow.Author.Rules.{rules}
-use Rattle.frames.specs.Frames.{Moved}
 use Rattle.frames.proofs.Filling.{moved_none, moved_more, moved_all}
 use Rattle.frames.proofs.move_values.Goals as goal
 

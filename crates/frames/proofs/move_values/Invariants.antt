@@ -1,11 +1,8 @@
 -- What holds at each turn of the loop of `frames::move_values`, and its measure. Assumes nothing.
-use mathlib.Core.Path.{◌≡◌, refl}
+use mathlib.Core.Path.{◌≡◌}
 use Prim.Native.Nat.{◌-◌, ◌≤◌}
-use native.Mathlib.Omega.{arith}
-use lib.ListN.{length, length-set}
-use borrow.Author.Rules.{rules}
+use lib.ListN.{length}
 use Rattle.frames.specs.Frames.{Moved}
-use Rattle.frames.proofs.Filling.{moved_none, moved_more, moved_all}
 use Rattle.frames.proofs.move_values.Given as goal
 
 abbrev pub invariant-loop-i : goal.invariant-loop-i

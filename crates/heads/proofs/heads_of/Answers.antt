@@ -5,8 +5,6 @@ use mathlib.Core.List.{List}
 use native.Mathlib.Omega.{arith}
 use mathlib.Core.Path.{◌≡◌, ap, ◌∙◌}
 use Rattle.heads.specs.Heads.{heads_by}
-use borrow.Author.Rules.{rules}
-use Prim.Native.Nat.{◌-◌, ◌≤◌}
 use Rattle.heads.proofs.Laws as laws
 use Rattle.heads.proofs.heads_of.Goals as goal
 

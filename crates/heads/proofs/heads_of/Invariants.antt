@@ -1,13 +1,7 @@
 -- What holds at each turn of the loop of `heads::heads_of`, and its measure. Assumes nothing.
-use Rattle.meaning.specs.declared.Head.{Head}
-use lib.ListN.{set}
-use mathlib.Core.List.{List}
-use native.Mathlib.Omega.{arith}
-use mathlib.Core.Path.{◌≡◌, ap, ◌∙◌}
+use mathlib.Core.Path.{◌≡◌}
 use Rattle.heads.specs.Heads.{heads_by}
-use borrow.Author.Rules.{rules}
 use Prim.Native.Nat.{◌-◌, ◌≤◌}
-use Rattle.heads.proofs.Laws as laws
 use Rattle.heads.proofs.heads_of.Given as goal
 
 abbrev pub invariant-loop-i : goal.invariant-loop-i

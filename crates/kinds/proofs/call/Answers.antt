@@ -3,7 +3,6 @@ use mathlib.Core.Path.{refl, sym, ap, ◌∙◌}
 use Prim.Native.Nat.{ℕ, ◌+◌, ◌-◌, ◌<◌}
 use native.Mathlib.Omega.{arith}
 use lib.ListN.{length}
-use borrow.Author.Rules.{rules}
 use Rattle.layout.specs.Layout.{values_from}
 use Rattle.layout.proofs.Steps.{high_open, call_is, call_none}
 use Rattle.frames.proofs.Entering.{call_comes}

@@ -1,7 +1,6 @@
 -- `kinds::choose` meets its contract. Assumes nothing.
 use Prim.Native.Nat.{◌-◌}
 use native.Mathlib.Omega.{arith}
-use borrow.Author.Rules.{rules}
 use Rattle.meaning.specs.Machine.{obey, rewrites}
 use Rattle.layout.proofs.Steps.{stay_comes, choose_nothing, choose_branch, choose_neither}
 use Rattle.kinds.proofs.Meeting.{meets_made, meets_stuck}

@@ -1,8 +1,7 @@
 -- `kinds::go_back` meets its contract. Assumes nothing.
-use borrow.Author.Rules.{rules}
 use Rattle.meaning.specs.Machine.{obey, rewrites}
 use Rattle.layout.proofs.Steps.{back_comes}
-use Rattle.kinds.specs.Met.{number_at, is_made}
+use Rattle.kinds.specs.Met.{is_made}
 use Rattle.kinds.proofs.go_back.Goals as goal
 
 pub returns : goal.returns

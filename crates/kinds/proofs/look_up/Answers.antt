@@ -2,7 +2,6 @@
 use mathlib.Core.Path.{sym, ap, ◌∙◌}
 use Prim.Native.Nat.{ℕ}
 use native.Mathlib.Omega.{arith}
-use borrow.Author.Rules.{rules}
 use Rattle.layout.specs.Layout.{opened}
 use Rattle.kinds.specs.Met.{counted}
 use Rattle.kinds.proofs.Calls.{rewrites_eval}

@@ -1,7 +1,6 @@
 -- `kinds::operate` meets its contract. Assumes nothing.
 use mathlib.Core.Path.{sym, ap, ◌∙◌}
 use Prim.Native.Nat.{ℕ}
-use borrow.Author.Rules.{rules}
 use Rattle.kinds.specs.Met.{counted}
 use Rattle.kinds.proofs.Meeting.{meets_as}
 use Rattle.kinds.proofs.Operations.{rewrites_constant, exec_constant}

@@ -2,7 +2,6 @@
 use mathlib.Core.Path.{refl}
 use Prim.Native.Nat.{◌+◌}
 use native.Mathlib.Omega.{arith}
-use borrow.Author.Rules.{rules}
 use Rattle.layout.proofs.Steps.{push_comes, high_push}
 use Rattle.kinds.proofs.Meeting.{meets_made, meets_deep}
 use Rattle.kinds.proofs.push.Goals as goal

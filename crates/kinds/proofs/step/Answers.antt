@@ -1,7 +1,6 @@
 -- `kinds::step` meets its contract. Assumes nothing.
 use mathlib.Core.Path.{ap}
 use Prim.Native.Nat.{ℕ, ◌*◌}
-use borrow.Author.Rules.{rules}
 use Rattle.meaning.specs.Numbers.{instruction_words}
 use Rattle.meaning.specs.Machine.{obey}
 use Rattle.layout.proofs.Reading.{reads_nothing, reads_eval, reads_exec, reads_select, reads_call, reads_ret, reads_other}

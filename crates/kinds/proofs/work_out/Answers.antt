@@ -2,7 +2,6 @@
 use mathlib.Core.Path.{sym, ap, ◌∙◌}
 use Prim.Native.Nat.{ℕ, ◌-◌}
 use native.Mathlib.Omega.{arith}
-use borrow.Author.Rules.{rules}
 use Rattle.kinds.proofs.Operations.{rewrites_negation, rewrites_two, exec_gives, exec_divides, exec_few, negation_nothing, exec_negation, exec_unknown}
 use Rattle.kinds.proofs.Meeting.{meets_made, meets_stuck, meets_zero}
 use Rattle.kinds.specs.Met.{counted}

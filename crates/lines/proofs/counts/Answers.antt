@@ -2,7 +2,6 @@
 use mathlib.Core.Path.{ap, ◌∙◌}
 use Rattle.lines.specs.Lines.{shown}
 use Rattle.lines.proofs.Laws as laws
-use borrow.Author.Rules.{rules}
 use Rattle.lines.proofs.counts.Goals as goal
 
 pub returns-then-functions-gt-MOST_FUNCTIONS : goal.returns-then-functions-gt-MOST_FUNCTIONS

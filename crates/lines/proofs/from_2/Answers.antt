@@ -1,7 +1,6 @@
 -- `lines::from_2` meets its contract. Assumes nothing.
 use mathlib.Core.Path.{◌∙◌}
 use Rattle.lines.proofs.Laws as laws
-use borrow.Author.Rules.{rules}
 use Rattle.lines.proofs.from_2.Goals as goal
 
 pub returns-then-line-at : goal.returns-then-line-at

@@ -3,7 +3,6 @@ use mathlib.Core.Path.{◌∙◌}
 use mathlib.Core.List.{[]}
 use Rattle.meaning.specs.Text.{is_visible}
 use Rattle.lines.proofs.Laws as laws
-use borrow.Author.Rules.{rules}
 use Rattle.lines.proofs.from_5.Goals as goal
 
 pub returns-then-line-at : goal.returns-then-line-at

@@ -1,11 +1,7 @@
 -- `lines::held` meets its contract. Assumes nothing.
 use native.Mathlib.Omega.{arith}
-use mathlib.Core.Path.{◌≡◌, ◌∙◌}
-use Rattle.lines.specs.Lines.{is_held}
+use mathlib.Core.Path.{◌∙◌}
 use Rattle.lines.proofs.Laws as laws
-use borrow.Author.Rules.{rules}
-use Prim.Native.Nat.{◌-◌}
-use lib.ListN.{length, drop}
 use Rattle.lines.proofs.held.Goals as goal
 
 pub returns-then-name-names : goal.returns-then-name-names

@@ -1,9 +1,6 @@
 -- What holds at each turn of the loop of `lines::held`, and its measure. Assumes nothing.
-use native.Mathlib.Omega.{arith}
-use mathlib.Core.Path.{◌≡◌, ◌∙◌}
+use mathlib.Core.Path.{◌≡◌}
 use Rattle.lines.specs.Lines.{is_held}
-use Rattle.lines.proofs.Laws as laws
-use borrow.Author.Rules.{rules}
 use Prim.Native.Nat.{◌-◌}
 use lib.ListN.{length, drop}
 use Rattle.lines.proofs.held.Given as goal

@@ -1,13 +1,7 @@
 -- `lines::judge_body` meets its contract. Assumes nothing.
 use native.Mathlib.Omega.{arith}
-use mathlib.Core.Path.{◌≡◌, ◌∙◌}
-use mathlib.Core.List.{[]}
-use Rattle.fields.specs.Fields.{rest}
-use Rattle.lines.specs.Lines.{judged_from}
+use mathlib.Core.Path.{◌∙◌}
 use Rattle.lines.proofs.Laws as laws
-use borrow.Author.Rules.{rules}
-use Prim.Native.Nat.{◌+◌, ◌-◌, ◌≤◌}
-use lib.ListN.{length, drop}
 use Rattle.lines.proofs.judge_body.Goals as goal
 
 pub returns-then-e-a : goal.returns-then-e-a

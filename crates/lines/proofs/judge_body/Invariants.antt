@@ -1,11 +1,8 @@
 -- What holds at each turn of the loop of `lines::judge_body`, and its measure. Assumes nothing.
-use native.Mathlib.Omega.{arith}
-use mathlib.Core.Path.{◌≡◌, ◌∙◌}
+use mathlib.Core.Path.{◌≡◌}
 use mathlib.Core.List.{[]}
 use Rattle.fields.specs.Fields.{rest}
 use Rattle.lines.specs.Lines.{judged_from}
-use Rattle.lines.proofs.Laws as laws
-use borrow.Author.Rules.{rules}
 use Prim.Native.Nat.{◌+◌, ◌-◌, ◌≤◌}
 use lib.ListN.{length, drop}
 use Rattle.lines.proofs.judge_body.Given as goal

@@ -1,7 +1,6 @@
 -- `lines::judge_line` meets its contract. Assumes nothing.
 use mathlib.Core.Path.{◌∙◌}
 use Rattle.lines.proofs.Laws as laws
-use borrow.Author.Rules.{rules}
 use Rattle.lines.proofs.judge_line.Goals as goal
 
 pub returns-then-name : goal.returns-then-name

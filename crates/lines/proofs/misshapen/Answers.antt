@@ -1,6 +1,5 @@
 -- `lines::misshapen` meets its contract. Assumes nothing.
 use Rattle.lines.proofs.Laws as laws
-use borrow.Author.Rules.{rules}
 use Rattle.lines.proofs.misshapen.Goals as goal
 
 pub returns : goal.returns

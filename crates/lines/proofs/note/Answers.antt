@@ -2,7 +2,6 @@
 use mathlib.Core.Path.{ap, ◌∙◌}
 use lib.ListN.{set}
 use Rattle.lines.proofs.Laws as laws
-use borrow.Author.Rules.{rules}
 use Rattle.lines.proofs.note.Goals as goal
 
 pub packed_name-requires : goal.packed_name-requires

@@ -1,6 +1,5 @@
 -- `lines::put_head` meets its contract. Assumes nothing.
 use Rattle.lines.proofs.Splice as splices
-use borrow.Author.Rules.{rules}
 use Rattle.lines.proofs.put_head.Goals as goal
 
 pub returns-else-n-heads : goal.returns-else-n-heads

@@ -1,6 +1,5 @@
 -- `lines::put_name` meets its contract. Assumes nothing.
 use Rattle.lines.proofs.Splice as splices
-use borrow.Author.Rules.{rules}
 use Rattle.lines.proofs.put_name.Goals as goal
 
 pub returns-else-n-names : goal.returns-else-n-names

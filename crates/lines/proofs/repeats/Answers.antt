@@ -1,12 +1,8 @@
 -- `lines::repeats` meets its contract. Assumes nothing.
 use native.Mathlib.Omega.{arith}
-use mathlib.Core.Path.{◌≡◌, ap, ◌∙◌}
-use mathlib.Core.List.{[]}
-use Rattle.lines.specs.Lines.{shown, judge_packed}
+use mathlib.Core.Path.{ap, ◌∙◌}
+use Rattle.lines.specs.Lines.{shown}
 use Rattle.lines.proofs.Laws as laws
-use borrow.Author.Rules.{rules}
-use Prim.Native.Nat.{◌+◌, ◌-◌}
-use lib.ListN.{length, take, drop}
 use Rattle.lines.proofs.repeats.Goals as goal
 
 pub returns-then-held : goal.returns-then-held

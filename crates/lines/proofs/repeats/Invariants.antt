@@ -1,10 +1,7 @@
 -- What holds at each turn of the loop of `lines::repeats`, and its measure. Assumes nothing.
-use native.Mathlib.Omega.{arith}
-use mathlib.Core.Path.{◌≡◌, ap, ◌∙◌}
+use mathlib.Core.Path.{◌≡◌}
 use mathlib.Core.List.{[]}
-use Rattle.lines.specs.Lines.{shown, judge_packed}
-use Rattle.lines.proofs.Laws as laws
-use borrow.Author.Rules.{rules}
+use Rattle.lines.specs.Lines.{judge_packed}
 use Prim.Native.Nat.{◌+◌, ◌-◌}
 use lib.ListN.{length, take, drop}
 use Rattle.lines.proofs.repeats.Given as goal

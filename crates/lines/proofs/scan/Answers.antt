@@ -1,9 +1,6 @@
 -- `lines::scan` meets its contract. Assumes nothing.
 use native.Mathlib.Omega.{arith}
-use Prim.Native.Nat.{◌-◌}
-use lib.ListN.{length}
 use Rattle.lines.proofs.Laws as laws
-use borrow.Author.Rules.{rules}
 use Rattle.lines.proofs.scan.Goals as goal
 
 pub returns-then-text-eq0 : goal.returns-then-text-eq0

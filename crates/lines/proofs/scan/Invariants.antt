@@ -1,9 +1,7 @@
 -- What holds at each turn of the loop of `lines::scan`, and its measure. Assumes nothing.
-use native.Mathlib.Omega.{arith}
 use Prim.Native.Nat.{◌-◌}
 use lib.ListN.{length}
 use Rattle.lines.proofs.Laws as laws
-use borrow.Author.Rules.{rules}
 use Rattle.lines.proofs.scan.Given as goal
 
 abbrev pub invariant-loop-at : goal.invariant-loop-at

@@ -1,6 +1,5 @@
 -- `lines::sign` meets its contract. Assumes nothing.
 use Rattle.lines.proofs.Laws as laws
-use borrow.Author.Rules.{rules}
 use Rattle.lines.proofs.sign.Goals as goal
 
 pub returns : goal.returns

@@ -1,14 +1,8 @@
 -- `lines::sorts_mask` meets its contract. Assumes nothing.
-use Rattle.table.specs.Table.{mask}
-use Prim.Native.Nat.{◌^◌}
 use native.Mathlib.Omega.{arith}
-use mathlib.Core.Path.{◌≡◌}
-use mathlib.Core.List.{map}
-use Rattle.meaning.specs.Text.{sort_of}
 use Rattle.lines.proofs.Laws as laws
-use borrow.Author.Rules.{rules}
-use Prim.Native.Nat.{◌-◌, ◌<◌, ◌≤◌}
-use lib.ListN.{length, drop}
+use Prim.Native.Nat.{◌-◌}
+use lib.ListN.{length}
 use Rattle.lines.proofs.sorts_mask.Goals as goal
 
 pub loop-i-init : goal.loop-i-init

@@ -1,12 +1,9 @@
 -- What holds at each turn of the loop of `lines::sorts_mask`, and its measure. Assumes nothing.
 use Rattle.table.specs.Table.{mask}
 use Prim.Native.Nat.{◌^◌}
-use native.Mathlib.Omega.{arith}
 use mathlib.Core.Path.{◌≡◌}
 use mathlib.Core.List.{map}
 use Rattle.meaning.specs.Text.{sort_of}
-use Rattle.lines.proofs.Laws as laws
-use borrow.Author.Rules.{rules}
 use Prim.Native.Nat.{◌-◌, ◌<◌, ◌≤◌}
 use lib.ListN.{length, drop}
 use Rattle.lines.proofs.sorts_mask.Given as goal

@@ -1,12 +1,8 @@
 -- `lines::symbol_count` meets its contract. Assumes nothing.
 use native.Mathlib.Omega.{arith}
-use mathlib.Core.Path.{◌≡◌, ap, ◌∙◌}
-use Rattle.meaning.specs.Text.{judge_symbols, lines}
+use mathlib.Core.Path.{ap, ◌∙◌}
 use Rattle.lines.specs.Lines.{shown}
 use Rattle.lines.proofs.Laws as laws
-use borrow.Author.Rules.{rules}
-use Prim.Native.Nat.{◌+◌, ◌-◌, ◌≤◌}
-use lib.ListN.{length, drop}
 use Rattle.lines.proofs.symbol_count.Goals as goal
 
 pub returns-then-text-e : goal.returns-then-text-e

@@ -1,10 +1,6 @@
 -- What holds at each turn of the loop of `lines::symbol_count`, and its measure. Assumes nothing.
-use native.Mathlib.Omega.{arith}
-use mathlib.Core.Path.{◌≡◌, ap, ◌∙◌}
+use mathlib.Core.Path.{◌≡◌}
 use Rattle.meaning.specs.Text.{judge_symbols, lines}
-use Rattle.lines.specs.Lines.{shown}
-use Rattle.lines.proofs.Laws as laws
-use borrow.Author.Rules.{rules}
 use Prim.Native.Nat.{◌+◌, ◌-◌, ◌≤◌}
 use lib.ListN.{length, drop}
 use Rattle.lines.proofs.symbol_count.Given as goal

@@ -1,6 +1,5 @@
 -- `lines::symbols_in` meets its contract. Assumes nothing.
 use Rattle.lines.proofs.Laws as laws
-use borrow.Author.Rules.{rules}
 use Rattle.lines.proofs.symbols_in.Goals as goal
 
 pub returns-then-n-lt3 : goal.returns-then-n-lt3

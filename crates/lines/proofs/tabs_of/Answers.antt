@@ -1,7 +1,6 @@
 -- `lines::tabs_of` meets its contract. Assumes nothing.
 use native.Mathlib.Omega.{arith}
 use Rattle.lines.proofs.Laws as laws
-use borrow.Author.Rules.{rules}
 use Rattle.lines.proofs.tabs_of.Goals as goal
 
 pub piece_end-strict-requires : goal.piece_end-strict-requires

@@ -1,5 +1,4 @@
 -- `machine::answer` meets its contract. Assumes nothing.
-use borrow.Author.Rules.{rules}
 use Rattle.machine.proofs.answer.Goals as goal
 
 pub returns : goal.returns

@@ -1,11 +1,9 @@
 -- `machine::clear` meets its contract. Assumes nothing.
-use mathlib.Core.Path.{◌≡◌, refl}
-use Prim.Native.Nat.{◌-◌, ◌≤◌}
+use mathlib.Core.Path.{refl}
 use native.Mathlib.Omega.{arith}
-use lib.ListN.{length, length-set}
+use lib.ListN.{length-set}
 use borrow.Author.Rules.{rules}
-use Rattle.meaning.specs.Numbers.{work_words}
-use Rattle.machine.proofs.Clearing.{zeroed, zeroed_none, zeroed_more, all_zeroed}
+use Rattle.machine.proofs.Clearing.{zeroed_none, zeroed_more, all_zeroed}
 use Rattle.machine.proofs.clear.Goals as goal
 
 pub loop-i-init : goal.loop-i-init

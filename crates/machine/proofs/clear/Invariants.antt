@@ -1,11 +1,9 @@
 -- What holds at each turn of the loop of `machine::clear`, and its measure. Assumes nothing.
-use mathlib.Core.Path.{◌≡◌, refl}
+use mathlib.Core.Path.{◌≡◌}
 use Prim.Native.Nat.{◌-◌, ◌≤◌}
-use native.Mathlib.Omega.{arith}
-use lib.ListN.{length, length-set}
-use borrow.Author.Rules.{rules}
+use lib.ListN.{length}
 use Rattle.meaning.specs.Numbers.{work_words}
-use Rattle.machine.proofs.Clearing.{zeroed, zeroed_none, zeroed_more, all_zeroed}
+use Rattle.machine.proofs.Clearing.{zeroed}
 use Rattle.machine.proofs.clear.Given as goal
 
 abbrev pub invariant-loop-i : goal.invariant-loop-i

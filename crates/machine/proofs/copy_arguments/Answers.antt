@@ -1,10 +1,8 @@
 -- `machine::copy_arguments` meets its contract. Assumes nothing.
-use mathlib.Core.Path.{◌≡◌, refl}
-use Prim.Native.Nat.{◌-◌, ◌≤◌}
+use mathlib.Core.Path.{refl}
 use native.Mathlib.Omega.{arith}
-use lib.ListN.{length, length-set}
+use lib.ListN.{length-set}
 use borrow.Author.Rules.{rules}
-use Rattle.machine.specs.Ends.{Given}
 use Rattle.machine.proofs.Beginning.{given_none, given_more, given_all}
 use Rattle.machine.proofs.copy_arguments.Goals as goal
 

@@ -1,11 +1,8 @@
 -- What holds at each turn of the loop of `machine::copy_arguments`, and its measure. Assumes nothing.
-use mathlib.Core.Path.{◌≡◌, refl}
+use mathlib.Core.Path.{◌≡◌}
 use Prim.Native.Nat.{◌-◌, ◌≤◌}
-use native.Mathlib.Omega.{arith}
-use lib.ListN.{length, length-set}
-use borrow.Author.Rules.{rules}
+use lib.ListN.{length}
 use Rattle.machine.specs.Ends.{Given}
-use Rattle.machine.proofs.Beginning.{given_none, given_more, given_all}
 use Rattle.machine.proofs.copy_arguments.Given as goal
 
 abbrev pub invariant-loop-i : goal.invariant-loop-i

@@ -1,10 +1,7 @@
 -- `machine::drive` meets its contract. Assumes nothing.
 use native.Mathlib.Omega.{arith}
 use borrow.Author.Rules.{rules}
-use Rattle.meaning.specs.Machine.{run}
-use Rattle.layout.specs.Decoding.{decode}
-use Rattle.layout.specs.Layout.{holds}
-use Rattle.machine.proofs.Loop.{On, still, ends_over, ends_fuel, keeps_running, turns, falls, begins}
+use Rattle.machine.proofs.Loop.{ends_over, ends_fuel, keeps_running, turns, falls, begins}
 use Rattle.machine.proofs.drive.Goals as goal
 
 pub loop-s-init : goal.loop-s-init

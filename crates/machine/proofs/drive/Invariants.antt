@@ -1,10 +1,8 @@
 -- What holds at each turn of the loop of `machine::drive`, and its measure. Assumes nothing.
-use native.Mathlib.Omega.{arith}
-use borrow.Author.Rules.{rules}
 use Rattle.meaning.specs.Machine.{run}
 use Rattle.layout.specs.Decoding.{decode}
 use Rattle.layout.specs.Layout.{holds}
-use Rattle.machine.proofs.Loop.{On, still, ends_over, ends_fuel, keeps_running, turns, falls, begins}
+use Rattle.machine.proofs.Loop.{On, still}
 use Rattle.machine.proofs.drive.Given as goal
 
 abbrev pub invariant-loop-s : goal.invariant-loop-s

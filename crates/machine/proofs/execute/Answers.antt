@@ -1,7 +1,6 @@
 -- `machine::execute` meets its contract. Assumes nothing.
 use mathlib.Core.Path.{ap, ◌∙◌}
 use Prim.Native.Nat.{ℕ}
-use borrow.Author.Rules.{rules}
 use Rattle.meaning.specs.Machine.{State, run, start}
 use Rattle.meaning.specs.Answers.{ran}
 use Rattle.layout.specs.Decoding.{decode}

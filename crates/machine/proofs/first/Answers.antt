@@ -1,5 +1,4 @@
 -- `machine::first` meets its contract. Assumes nothing.
-use borrow.Author.Rules.{rules}
 use borrow.Author.Tests.{eq-eqb, ne_eqb}
 use Rattle.layout.specs.Decoding.{first_entrance}
 use Rattle.machine.proofs.Beginning.{no_fourth}

@@ -3,7 +3,6 @@ use mathlib.Core.Path.{subst, sym}
 use Prim.Native.Nat.{◌≤◌}
 use Rattle.meaning.specs.Numbers.{most_functions}
 use Rattle.meaning.specs.declared.Checked.{Checked}
-use borrow.Author.Rules.{rules}
 use Rattle.answers.proofs.Laws as laws
 use Rattle.nespralha.proofs.check_long.Goals as goal
 

@@ -1,6 +1,5 @@
 -- `nespralha::run` meets its contract. Assumes nothing.
 use Rattle.answers.specs.Outcomes.{RunOutcome}
-use borrow.Author.Rules.{rules}
 use Rattle.nespralha.proofs.run.Goals as goal
 
 pub returns-then-text-le-SHORT_TEXT : goal.returns-then-text-le-SHORT_TEXT

@@ -1,5 +1,4 @@
 -- `nespralha::run_long` meets its contract. Assumes nothing.
-use borrow.Author.Rules.{rules}
 use Rattle.nespralha.proofs.run_long.Goals as goal
 
 pub returns : goal.returns

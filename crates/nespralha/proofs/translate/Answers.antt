@@ -1,6 +1,5 @@
 -- `nespralha::translate` meets its contract. Assumes nothing.
 use Rattle.answers.specs.Outcomes.{TranslateOutcome}
-use borrow.Author.Rules.{rules}
 use Rattle.nespralha.proofs.translate.Goals as goal
 
 pub returns-then-text-le-SHORT_TEXT : goal.returns-then-text-le-SHORT_TEXT

@@ -1,13 +1,9 @@
 -- `order::arguments` meets its contract. Assumes nothing.
-use mathlib.Core.List.{[]}
-use Rattle.meaning.specs.Text.{tab}
-use Rattle.fields.specs.Fields.{rest}
-use Rattle.order.specs.Asked.{arguments_from}
 use borrow.Author.Rules.{rules}
 use native.Mathlib.Omega.{arith}
-use mathlib.Core.Path.{◌≡◌, refl, sym, ap, ◌∙◌}
-use Prim.Native.Nat.{◌+◌, ◌-◌, ◌≤◌}
-use lib.ListN.{length, take, drop}
+use mathlib.Core.Path.{refl, sym, ap, ◌∙◌}
+use Prim.Native.Nat.{◌+◌}
+use lib.ListN.{take}
 use Rattle.order.proofs.Laws as laws
 use Rattle.order.proofs.arguments.Goals as goal
 

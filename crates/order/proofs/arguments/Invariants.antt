@@ -3,12 +3,9 @@ use mathlib.Core.List.{[]}
 use Rattle.meaning.specs.Text.{tab}
 use Rattle.fields.specs.Fields.{rest}
 use Rattle.order.specs.Asked.{arguments_from}
-use borrow.Author.Rules.{rules}
-use native.Mathlib.Omega.{arith}
-use mathlib.Core.Path.{◌≡◌, refl, sym, ap, ◌∙◌}
-use Prim.Native.Nat.{◌+◌, ◌-◌, ◌≤◌}
+use mathlib.Core.Path.{◌≡◌}
+use Prim.Native.Nat.{◌-◌, ◌≤◌}
 use lib.ListN.{length, take, drop}
-use Rattle.order.proofs.Laws as laws
 use Rattle.order.proofs.arguments.Given as goal
 
 abbrev pub invariant-loop-i : goal.invariant-loop-i

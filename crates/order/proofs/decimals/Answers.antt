@@ -1,6 +1,5 @@
 -- `order::decimals` meets its contract. Assumes nothing.
 use mathlib.Core.Path.{ap, sym, ◌∙◌}
-use borrow.Author.Rules.{rules}
 use Rattle.order.proofs.Laws as laws
 use Rattle.order.proofs.decimals.Goals as goal
 

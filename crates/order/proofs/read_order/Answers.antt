@@ -1,6 +1,5 @@
 -- `order::read_order` meets its contract. Assumes nothing.
 use mathlib.Core.Path.{ap}
-use borrow.Author.Rules.{rules}
 use Rattle.order.proofs.Laws as laws
 use Rattle.order.proofs.read_order.Goals as goal
 

@@ -2,7 +2,6 @@
 use Rattle.printing.specs.Digits.{digit}
 use mathlib.Core.Path.{ap, sym, ◌∙◌}
 use Rattle.printing.proofs.Laws.{digit_place}
-use borrow.Author.Rules.{rules}
 use Rattle.printing.proofs.digit_at.Goals as goal
 
 pub returns : goal.returns

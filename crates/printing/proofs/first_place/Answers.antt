@@ -1,13 +1,11 @@
 -- `printing::first_place` meets its contract. Assumes nothing.
 use native.Mathlib.Numerals.{add-one}
-use Rattle.meaning.specs.Program.{decimal, without_zeros}
+use Rattle.meaning.specs.Program.{decimal}
 use Rattle.printing.specs.Digits.{digits}
 use Rattle.printing.proofs.Laws.{skip, begin, last_shown, ten_digits}
 use borrow.Author.Rules.{rules}
 use native.Mathlib.Omega.{arith}
-use mathlib.Core.Path.{◌≡◌, refl, sym, ◌∙◌}
-use Prim.Native.Nat.{◌-◌, ◌≤◌}
-use lib.ListN.{drop}
+use mathlib.Core.Path.{refl, sym, ◌∙◌}
 use Rattle.printing.proofs.first_place.Goals as goal
 
 pub loop-i-init : goal.loop-i-init

@@ -1,7 +1,6 @@
 -- `printing::place` meets its contract. Assumes nothing.
 use mathlib.Core.Path.{refl}
 use Rattle.printing.proofs.Laws.{place_positive}
-use borrow.Author.Rules.{rules}
 use Rattle.printing.proofs.place.Goals as goal
 
 pub returns : goal.returns

@@ -3,7 +3,6 @@ use Rattle.printing.proofs.Laws.{nothing_shown}
 use mathlib.Core.List.{append_assoc}
 use native.Mathlib.Omega.{arith}
 use Rattle.meaning.specs.Program.{printed}
-use borrow.Author.Rules.{rules}
 use Rattle.printing.proofs.print.Goals as goal
 
 pub returns : goal.returns

@@ -1,13 +1,10 @@
 -- `printing::put_decimal` meets its contract. Assumes nothing.
 use Rattle.printing.proofs.Laws.{one_more, no_more, ten_digits}
 use mathlib.Core.List.{◌++◌}
-use Rattle.meaning.specs.Program.{decimal}
 use Rattle.printing.specs.Digits.{digits, shown}
 use borrow.Author.Rules.{rules}
 use native.Mathlib.Omega.{arith}
-use mathlib.Core.Path.{◌≡◌, sym, ap}
-use Prim.Native.Nat.{◌+◌, ◌-◌, ◌≤◌}
-use lib.ListN.{drop}
+use mathlib.Core.Path.{sym, ap}
 use Rattle.printing.proofs.put_decimal.Goals as goal
 
 pub loop-i-init : goal.loop-i-init

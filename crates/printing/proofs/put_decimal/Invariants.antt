@@ -1,11 +1,8 @@
 -- What holds at each turn of the loop of `printing::put_decimal`, and its measure. Assumes nothing.
-use Rattle.printing.proofs.Laws.{one_more, no_more, ten_digits}
 use mathlib.Core.List.{◌++◌}
 use Rattle.meaning.specs.Program.{decimal}
 use Rattle.printing.specs.Digits.{digits, shown}
-use borrow.Author.Rules.{rules}
-use native.Mathlib.Omega.{arith}
-use mathlib.Core.Path.{◌≡◌, sym, ap}
+use mathlib.Core.Path.{◌≡◌}
 use Prim.Native.Nat.{◌+◌, ◌-◌, ◌≤◌}
 use lib.ListN.{drop}
 use Rattle.printing.proofs.put_decimal.Given as goal

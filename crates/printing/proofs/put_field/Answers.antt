@@ -4,7 +4,6 @@ use Rattle.printing.specs.Digits.{shown}
 use mathlib.Core.Path.{ap, ◌∙◌}
 use mathlib.Core.List.{◌++◌, ◌∷◌, [], append_assoc}
 use native.Mathlib.Omega.{arith}
-use borrow.Author.Rules.{rules}
 use Rattle.printing.proofs.put_field.Goals as goal
 
 pub returns : goal.returns

@@ -1,10 +1,6 @@
 -- `reader::first_at` meets its contract. Assumes nothing.
-use Rattle.reader.specs.Span.{span}
-use borrow.Author.Rules.{rules}
 use native.Mathlib.Omega.{arith}
-use mathlib.Core.Path.{◌≡◌, sym, ◌∙◌}
-use Prim.Native.Nat.{◌+◌, ◌-◌}
-use lib.ListN.{length, drop}
+use mathlib.Core.Path.{sym, ◌∙◌}
 use Rattle.reader.proofs.Laws as laws
 use Rattle.reader.proofs.first_at.Goals as goal
 

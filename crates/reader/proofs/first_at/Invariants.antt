@@ -1,11 +1,8 @@
 -- What holds at each turn of the loop of `reader::first_at`, and its measure. Assumes nothing.
 use Rattle.reader.specs.Span.{span}
-use borrow.Author.Rules.{rules}
-use native.Mathlib.Omega.{arith}
-use mathlib.Core.Path.{◌≡◌, sym, ◌∙◌}
+use mathlib.Core.Path.{◌≡◌}
 use Prim.Native.Nat.{◌+◌, ◌-◌}
 use lib.ListN.{length, drop}
-use Rattle.reader.proofs.Laws as laws
 use Rattle.reader.proofs.first_at.Given as goal
 
 abbrev pub invariant-loop-i : goal.invariant-loop-i

@@ -2,7 +2,6 @@
 use Rattle.meaning.specs.Numbers.{no}
 use Rattle.reading.specs.Reading.{acceptance}
 use Rattle.reading.proofs.Laws as laws
-use borrow.Author.Rules.{rules}
 use Rattle.reading.proofs.accepted.Goals as goal
 
 pub returns : goal.returns

@@ -1,13 +1,10 @@
 -- `reading::fill_own` meets its contract. Assumes nothing.
-use lib.ListN.{length, length-set}
+use lib.ListN.{length-set}
 use native.Mathlib.Omega.{arith}
-use mathlib.Core.Path.{◌≡◌, refl, ◌∙◌}
+use mathlib.Core.Path.{refl, ◌∙◌}
 use Rattle.lines.proofs.Splice as splices
-use Rattle.lines.specs.Splice.{splice}
-use Rattle.reading.specs.Reading.{upto, zeros}
 use Rattle.reading.proofs.Laws as laws
-use borrow.Author.Rules.{rules}
-use Prim.Native.Nat.{◌+◌, ◌-◌, ◌≤◌}
+use Prim.Native.Nat.{◌+◌}
 use Rattle.reading.proofs.fill_own.Goals as goal
 
 pub loop-i-init : goal.loop-i-init

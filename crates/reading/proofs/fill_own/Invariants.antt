@@ -1,12 +1,8 @@
 -- What holds at each turn of the loop of `reading::fill_own`, and its measure. Assumes nothing.
-use lib.ListN.{length, length-set}
-use native.Mathlib.Omega.{arith}
-use mathlib.Core.Path.{◌≡◌, refl, ◌∙◌}
-use Rattle.lines.proofs.Splice as splices
+use lib.ListN.{length}
+use mathlib.Core.Path.{◌≡◌}
 use Rattle.lines.specs.Splice.{splice}
 use Rattle.reading.specs.Reading.{upto, zeros}
-use Rattle.reading.proofs.Laws as laws
-use borrow.Author.Rules.{rules}
 use Prim.Native.Nat.{◌+◌, ◌-◌, ◌≤◌}
 use Rattle.reading.proofs.fill_own.Given as goal
 

@@ -5,7 +5,6 @@ use native.Mathlib.Omega.{arith}
 use mathlib.Core.Path.{refl, ◌∙◌}
 use Rattle.reading.specs.Reading.{upto, zeros}
 use Rattle.reading.proofs.Laws as laws
-use borrow.Author.Rules.{rules}
 use Rattle.reading.proofs.initial.Goals as goal
 
 pub bounds-words-0 : goal.bounds-words-0

@@ -1,7 +1,6 @@
 -- `reading::read` meets its contract. Assumes nothing.
 use mathlib.Core.Path.{refl}
 use Rattle.reading.proofs.Laws as laws
-use borrow.Author.Rules.{rules}
 use Rattle.reading.proofs.read.Goals as goal
 
 pub returns-then-text-gt-MOST_BYTES : goal.returns-then-text-gt-MOST_BYTES

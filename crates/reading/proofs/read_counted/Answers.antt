@@ -6,7 +6,6 @@ use Rattle.meaning.specs.Text.{lines}
 use Rattle.lines.specs.Lines.{name_number, shown}
 use Rattle.reading.specs.Reading.{after_counts}
 use Rattle.reading.proofs.Laws as laws
-use borrow.Author.Rules.{rules}
 use Rattle.reading.proofs.read_counted.Goals as goal
 
 pub repeats-requires : goal.repeats-requires

@@ -5,7 +5,6 @@ use mathlib.Core.Path.{refl, ap}
 use Rattle.meaning.specs.Text.{lines}
 use Rattle.lines.specs.Lines.{line_signature}
 use Rattle.reading.proofs.Laws as laws
-use borrow.Author.Rules.{rules}
 use Rattle.reading.proofs.read_named.Goals as goal
 
 pub bounds-heads-0 : goal.bounds-heads-0

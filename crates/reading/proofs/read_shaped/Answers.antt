@@ -3,7 +3,6 @@ use native.Mathlib.Omega.{arith}
 use Rattle.lines.proofs.Laws as lines-laws
 use Rattle.reading.specs.Reading.{after_shape}
 use Rattle.reading.proofs.Laws as laws
-use borrow.Author.Rules.{rules}
 use Rattle.reading.proofs.read_shaped.Goals as goal
 
 pub slice_bounds-read_counted-end : goal.slice_bounds-read_counted-end

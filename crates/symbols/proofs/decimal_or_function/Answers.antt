@@ -2,7 +2,6 @@
 use mathlib.Core.Path.{ap, ◌∙◌}
 use Rattle.symbols.specs.Symbols.{recognised}
 use Rattle.symbols.proofs.Laws as laws
-use borrow.Author.Rules.{rules}
 use Rattle.symbols.proofs.decimal_or_function.Goals as goal
 
 pub returns-in-Not : goal.returns-in-Not

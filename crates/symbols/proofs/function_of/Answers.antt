@@ -1,12 +1,9 @@
 -- `symbols::function_of` meets its contract. Assumes nothing.
 use native.Mathlib.Omega.{arith}
-use mathlib.Core.Path.{◌≡◌, ap, ◌∙◌}
-use Prim.Native.Nat.{◌-◌}
-use lib.ListN.{length, drop}
+use mathlib.Core.Path.{ap, ◌∙◌}
 use Rattle.table.specs.Table.{symbol_word, symbol_value}
-use Rattle.symbols.specs.Symbols.{known, recognised, named_as}
+use Rattle.symbols.specs.Symbols.{known, recognised}
 use Rattle.symbols.proofs.Laws as laws
-use borrow.Author.Rules.{rules}
 use Rattle.symbols.proofs.function_of.Goals as goal
 
 pub returns-then-name-names : goal.returns-then-name-names

@@ -1,12 +1,8 @@
 -- What holds at each turn of the loop of `symbols::function_of`, and its measure. Assumes nothing.
-use native.Mathlib.Omega.{arith}
-use mathlib.Core.Path.{◌≡◌, ap, ◌∙◌}
+use mathlib.Core.Path.{◌≡◌}
 use Prim.Native.Nat.{◌-◌}
 use lib.ListN.{length, drop}
-use Rattle.table.specs.Table.{symbol_word, symbol_value}
-use Rattle.symbols.specs.Symbols.{known, recognised, named_as}
-use Rattle.symbols.proofs.Laws as laws
-use borrow.Author.Rules.{rules}
+use Rattle.symbols.specs.Symbols.{named_as}
 use Rattle.symbols.proofs.function_of.Given as goal
 
 abbrev pub invariant-loop-i : goal.invariant-loop-i

@@ -3,7 +3,6 @@ use mathlib.Core.Path.{ap}
 use Rattle.meaning.specs.Terms.{unknown}
 use Rattle.symbols.specs.Symbols.{recognised}
 use Rattle.symbols.proofs.Laws as laws
-use borrow.Author.Rules.{rules}
 use Rattle.symbols.proofs.long_decimal.Goals as goal
 
 pub returns-in-Not : goal.returns-in-Not

@@ -1,7 +1,6 @@
 -- `symbols::low_byte` meets its contract. Assumes nothing.
 use borrow.Author.Tests.{lt-ltb, le-ltb, eq-eqb, ne_eqb, le-leb, lt-leb}
 use Rattle.symbols.specs.Symbols.{low_by}
-use borrow.Author.Rules.{rules}
 use Rattle.symbols.proofs.low_byte.Goals as goal
 
 pub returns-then-b-lt48 : goal.returns-then-b-lt48

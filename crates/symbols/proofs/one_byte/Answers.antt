@@ -2,7 +2,6 @@
 use mathlib.Core.Path.{ap, ◌∙◌}
 use Rattle.symbols.specs.Symbols.{recognised, one_byte_symbol}
 use Rattle.symbols.proofs.Laws as laws
-use borrow.Author.Rules.{rules}
 use Rattle.symbols.proofs.one_byte.Goals as goal
 
 pub returns-in-Known : goal.returns-in-Known

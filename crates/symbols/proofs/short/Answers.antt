@@ -3,7 +3,6 @@ use native.Mathlib.Omega.{arith}
 use borrow.Author.Tests.{lt-ltb, le-ltb, eq-eqb, ne_eqb, le-leb, lt-leb}
 use Rattle.symbols.specs.Symbols.{short_by}
 use Rattle.symbols.proofs.Laws as laws
-use borrow.Author.Rules.{rules}
 use Rattle.symbols.proofs.short.Goals as goal
 
 pub returns-then-b-lt97 : goal.returns-then-b-lt97

@@ -3,7 +3,6 @@ use borrow.Author.Tests.{eq-eqb, ne_eqb}
 use Rattle.meaning.specs.Arithmetic.{op_constant}
 use Rattle.table.specs.Table.{symbol_word, symbol_value, op_word}
 use Rattle.symbols.specs.Symbols.{known, recognised, some_bytes_symbol}
-use borrow.Author.Rules.{rules}
 use Rattle.symbols.proofs.some_bytes.Goals as goal
 
 pub returns-then-name-eq-TRUE : goal.returns-then-name-eq-TRUE

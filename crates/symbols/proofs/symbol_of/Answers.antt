@@ -1,7 +1,6 @@
 -- `symbols::symbol_of` meets its contract. Assumes nothing.
 use borrow.Author.Tests.{lt-ltb, le-ltb, eq-eqb, ne_eqb}
 use Rattle.symbols.specs.Symbols.{symbol_by}
-use borrow.Author.Rules.{rules}
 use Rattle.symbols.proofs.Names as names
 use Rattle.symbols.proofs.symbol_of.Goals as goal
 

@@ -1,21 +1,20 @@
 -- `terms::read_args` and `terms::read_term` meet their contracts: they call each other, remaining depth and fields falling. Assumes nothing.
 use Rattle.terms.proofs.Laws as laws
-use Rattle.terms.specs.Terms.{Tolds}
-use Rattle.terms.specs.declared.Reached.{Reached}
 use borrow.Author.Rules.{rules}
 use native.Mathlib.Omega.{arith}
-use mathlib.Core.Path.{◌≡◌, refl, sym, ◌∙◌}
-use mathlib.Core.List.{List}
-use lib.ListN.{length}
-use Prim.Native.Nat.{ℕ, ◌+◌, ◌-◌, ◌*◌, ◌<◌, ◌≤◌}
+use mathlib.Core.Path.{refl, sym, ◌∙◌}
+use Prim.Native.Nat.{◌+◌, ◌-◌}
 use Rattle.terms.proofs.+read_args_read_term.Goals as goal
 
 pub read_args-loop-left-init : goal.read_args-loop-left-init
 read_args-loop-left-init t c = (refl, omega arith, omega arith, λ e' r p. p)
 
 pub read_args-returns-in-Fault : goal.read_args-returns-in-Fault
-read_args-returns-in-Fault t c = record { read = c.loop-left.invariant.3 _ _
-          (laws.args_fault c.args.words.now c.args.heads.now c.args.own c.loop-left.a c.args.depth c.loop-left.left c.loop-left.sorts _ _ c.loop-left.ends _ _ c.loop-left-test.true c.read_term.ensures.read c.in-Fault.is); within = laws.within_fault _ _ _ _ _ _ c.read_term.ensures.within c.in-Fault.is }
+read_args-returns-in-Fault t c = record {
+  read = c.loop-left.invariant.3 _ _
+      (laws.args_fault c.args.words.now c.args.heads.now c.args.own c.loop-left.a c.args.depth c.loop-left.left c.loop-left.sorts _ _ c.loop-left.ends _ _ c.loop-left-test.true c.read_term.ensures.read c.in-Fault.is);
+  within = laws.within_fault _ _ _ _ _ _ c.read_term.ensures.within c.in-Fault.is;
+}
 
 pub read_args-loop-left-smaller : goal.read_args-loop-left-smaller
 read_args-loop-left-smaller t c =
@@ -41,8 +40,11 @@ pub read_term-returns-then-depth-eq0 : goal.read_term-returns-then-depth-eq0
 read_term-returns-then-depth-eq0 t c = record { read = laws.term_deep _ _ _ _ _ _ _ _ c.if-words-at.false c.if-depth-eq0.true; within = laws.fault_within _ _ _ _ (omega (arith, c.if-words-at.false)) }
 
 pub read_term-returns-then-count-eq0 : goal.read_term-returns-then-count-eq0
-read_term-returns-then-count-eq0 t c = let s = c.args in record { read = laws.term_got s.words.now s.heads.now s.own s.at s.depth s.sort _ _ _ _ s.ends.now _ _ c.narrow.ensures c.if-words-at.false (omega arith) c.if-depth-eq0.false (sym c.judge.ensures ∙ c.in-Args.is)
-          (laws.args_none s.words.now s.heads.now s.own (s.at + 1) (s.depth - 1) _ _ s.ends.now c.if-count-eq0.true) refl; within = laws.place_within _ _ _ (omega (arith, c.if-words-at.false)) (omega arith) }
+read_term-returns-then-count-eq0 t c = let s = c.args in record {
+  read = laws.term_got s.words.now s.heads.now s.own s.at s.depth s.sort _ _ _ _ s.ends.now _ _ c.narrow.ensures c.if-words-at.false (omega arith) c.if-depth-eq0.false (sym c.judge.ensures ∙ c.in-Args.is)
+      (laws.args_none s.words.now s.heads.now s.own (s.at + 1) (s.depth - 1) _ _ s.ends.now c.if-count-eq0.true) refl;
+  within = laws.place_within _ _ _ (omega (arith, c.if-words-at.false)) (omega arith);
+}
 
 pub read_term-narrow-requires-in-Next : goal.read_term-narrow-requires-in-Next
 read_term-narrow-requires-in-Next t c = let w = laws.within_next _ _ _ _ c.read_args.ensures.within c.in-Next.is in omega (arith, w.0)

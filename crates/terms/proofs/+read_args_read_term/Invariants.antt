@@ -14,8 +14,8 @@ decreases-read_term l = 2 * (l.depth + (length l.words.now - l.at))
 abbrev pub invariant-read_args-loop-left : goal.invariant-read_args-loop-left
 invariant-read_args-loop-left l =
     (length l.ends ≡ length l.initial.ends) × (l.at ≤ l.a) × (l.a ≤ length l.words) ×
-        ((e' : List ℕ) (r : Reached) → Tolds l.words l.heads l.own l.a l.depth l.left l.sorts l.ends e' r →
-            Tolds l.words l.heads l.own l.at l.depth l.count l.mask l.initial.ends e' r)
+    ((e' : List ℕ) (r : Reached) → Tolds l.words l.heads l.own l.a l.depth l.left l.sorts l.ends e' r →
+    Tolds l.words l.heads l.own l.at l.depth l.count l.mask l.initial.ends e' r)
 
 abbrev pub decreases-read_args-loop-left : goal.decreases-read_args-loop-left
 decreases-read_args-loop-left l = length l.words - l.a

@@ -1,7 +1,6 @@
 -- `terms::argument` meets its contract. Assumes nothing.
 use borrow.Author.Tests.{lt-ltb, le-ltb, eq-eqb, ne_eqb}
 use Rattle.terms.specs.Terms.{argument_by}
-use borrow.Author.Rules.{rules}
 use Rattle.terms.proofs.argument.Goals as goal
 
 pub returns-then-bit_at-sort : goal.returns-then-bit_at-sort

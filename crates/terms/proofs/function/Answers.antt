@@ -1,7 +1,6 @@
 -- `terms::function` meets its contract. Assumes nothing.
 use borrow.Author.Tests.{lt-ltb, le-ltb}
 use Rattle.terms.specs.Terms.{function_by}
-use borrow.Author.Rules.{rules}
 use Rattle.terms.proofs.function.Goals as goal
 
 pub returns-then-f-heads : goal.returns-then-f-heads

@@ -2,7 +2,6 @@
 use borrow.Author.Tests.{lt-ltb, le-ltb, eq-eqb, ne_eqb}
 use mathlib.Core.Path.{ap, ◌∙◌}
 use Rattle.terms.specs.Terms.{signed_by, takes_by}
-use borrow.Author.Rules.{rules}
 use Rattle.terms.proofs.judge.Goals as goal
 
 pub returns-then-w-eq-UNKNOWN : goal.returns-then-w-eq-UNKNOWN

@@ -1,7 +1,6 @@
 -- `terms::operation` meets its contract. Assumes nothing.
 use borrow.Author.Tests.{lt-ltb, le-ltb, eq-eqb, ne_eqb}
 use Rattle.terms.specs.Terms.{operation_by}
-use borrow.Author.Rules.{rules}
 use Rattle.terms.proofs.operation.Goals as goal
 
 pub returns-then-w-lt-TRUTH : goal.returns-then-w-lt-TRUTH

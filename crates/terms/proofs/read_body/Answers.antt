@@ -1,7 +1,6 @@
 -- `terms::read_body` meets its contract. Assumes nothing.
 use Rattle.terms.proofs.Laws as laws
 use native.Mathlib.Omega.{arith}
-use borrow.Author.Rules.{rules}
 use Rattle.terms.proofs.read_body.Goals as goal
 
 pub returns-then-next-words : goal.returns-then-next-words

@@ -1,5 +1,4 @@
 -- `word::divided` meets its contract. Assumes nothing.
-use borrow.Author.Rules.{rules}
 use Rattle.meaning.specs.Arithmetic.{quotient}
 use Rattle.word.proofs.Laws.{divides_none, divides_some}
 use Rattle.word.proofs.divided.Goals as goal

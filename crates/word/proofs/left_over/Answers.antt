@@ -1,5 +1,4 @@
 -- `word::left_over` meets its contract. Assumes nothing.
-use borrow.Author.Rules.{rules}
 use Rattle.meaning.specs.Arithmetic.{remainder}
 use Rattle.word.proofs.Laws.{divides_none, divides_some}
 use Rattle.word.proofs.left_over.Goals as goal

@@ -1,7 +1,6 @@
 -- `word::operate` meets its contract. Assumes nothing.
 use mathlib.Core.Path.{ap}
 use borrow.Author.Tests.{ne_eqb}
-use borrow.Author.Rules.{rules}
 use Rattle.meaning.specs.Arithmetic.{difference}
 use Rattle.word.specs.declared.Worked.TheVariants.{Value}
 use Rattle.word.specs.Operated.{operated}

@@ -2,8 +2,6 @@
 use mathlib.Core.Path.{sym, ap}
 use Prim.Native.Nat.{ℕ, ◌+◌}
 use native.Mathlib.Nat.{add-zero}
-use borrow.Author.Rules.{rules}
-use Rattle.meaning.specs.Machine.{rewrites}
 use Rattle.kinds.proofs.Tally.step.Goals as goal
 
 pub returns : goal.returns
