@@ -1,4 +1,5 @@
 -- What the lines of a text are like that passes the tests of shape and of counts. Assumes nothing.
+use Rattle.std.specs.Prelude.{if◌then◌else◌}
 use mathlib.Core.Path.{◌≡◌, refl}
 use mathlib.Core.Bool.{Bool, true, false, ◌&&◌}
 use mathlib.Core.List.{List, [], ◌∷◌, map}
@@ -7,7 +8,7 @@ use native.Mathlib.Omega.{arith}
 use lib.Dec.{leb, eqb}
 use lib.ListN.{length, length-map}
 use borrow.Author.Tests.{leb-true}
-use Rattle.meaning.specs.Basics.{if◌then◌else◌, all}
+use Rattle.meaning.specs.Basics.{all}
 use Rattle.meaning.specs.Numbers.{most_functions, most_symbols, most_arguments}
 use Rattle.meaning.specs.Text.{fine, refused, Passed, Field, Line, tab, line_end, pieces, onto_first, is_name, is_count, are_sorts, is_sort, forms, first_wrong, wrong_field, judge_line, judge_lines, judge_shape, value, sort_of, line_of, all_but_last, lines, judge_symbols, judge_counts}
 use Rattle.accepted.specs.Accepted.{Every}

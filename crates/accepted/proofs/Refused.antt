@@ -1,4 +1,5 @@
 -- A text is refused, if at all, with one of the numbers 1 to 8 or 13 to 15. Assumes nothing.
+use Rattle.std.specs.Prelude.{if◌then◌else◌}
 use mathlib.Core.Bool.{Bool, true, false}
 use mathlib.Core.Logic.{◌⊎◌, inl, inr}
 use mathlib.Core.List.{List, [], ◌∷◌, map}
@@ -6,7 +7,6 @@ use Prim.Native.Nat.{ℕ, zero, suc, ◌+◌, ◌≤◌}
 use native.Mathlib.Omega.{arith}
 use lib.Dec.{leb}
 use lib.ListN.{length}
-use Rattle.meaning.specs.Basics.{if◌then◌else◌}
 use Rattle.meaning.specs.Numbers.{no, LONG, COUNT, NAME, most_bytes, most_functions, most_symbols}
 use Rattle.meaning.specs.Text.{Verdict, fine, refused, ◌>>=◌, ◌>>◌, Passed, Field, Line, pieces, tab, line_end, wrong_field, judge_line, judge_lines, judge_shape, judge_length, judge_symbols, judge_counts, judge_names, is_among, lines}
 use Rattle.meaning.specs.Terms.{Term, wrong_number, Read, got, fault, read_body, function_of, read_bodies}

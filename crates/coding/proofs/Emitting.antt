@@ -1,4 +1,5 @@
 -- The code of a term and of a row of terms, by the tests that the code makes. Assumes nothing.
+use Rattle.std.specs.Prelude.{if◌then◌else◌}
 use mathlib.Core.Path.{◌≡◌, refl, ap, sym, ◌∙◌, subst}
 use mathlib.Core.List.{List, [], ◌∷◌, ◌++◌, append_assoc}
 use Prim.Native.Nat.{ℕ, zero, suc, ◌+◌, ◌-◌, ◌*◌, ◌≤◌, ◌<◌}
@@ -7,7 +8,6 @@ use native.Mathlib.Numerals.{add-one}
 use lib.ListN.{length, get_or}
 use lib.Dec.{ltb}
 use borrow.Author.Tests.{lt-ltb, le-ltb}
-use Rattle.meaning.specs.Basics.{if◌then◌else◌}
 use Rattle.meaning.specs.Numbers.{most_arguments, instruction_words}
 use Rattle.meaning.specs.Terms.{Term, arg, op, cond, call, Terms, nil, cons}
 use Rattle.meaning.specs.Code.{size, sizes, count, Instruction, code, used_words, twelve, code_words}

@@ -1,6 +1,6 @@
 -- What the functions of src/ promise of whatever term the table of symbols holds. Assumes nothing.
-use Rattle.std.specs.Prelude.{◌≡◌, List, ℕ, suc, ◌+◌, ◌-◌, ◌*◌, ◌≤◌, ◌<◌, ltb, length}
-use Rattle.meaning.specs.Basics.{if◌then◌else◌, written_over}
+use Rattle.std.specs.Prelude.{◌≡◌, List, ℕ, suc, ◌+◌, ◌-◌, ◌*◌, ◌≤◌, ◌<◌, ltb, length, if◌then◌else◌}
+use Rattle.meaning.specs.Basics.{written_over}
 use Rattle.meaning.specs.Numbers.{instruction_words, most_arguments}
 use Rattle.meaning.specs.Terms.{Term, Terms, nil, cons, Program}
 use Rattle.meaning.specs.Code.{size, sizes, count, entrance, entrances, Instruction, SELECT, CALL, code, translation, used_words, twelve, code_words}

@@ -1,8 +1,7 @@
 // Translate's core: from the table of symbols to code words. Assumes nothing.
 #![tactic(auto)]
 
-ghost use Rattle.std.specs.Prelude.{◌≡◌, ◌+◌, ◌-◌, ◌*◌, ◌≤◌, ◌<◌, ltb, length};
-ghost use Rattle.meaning.specs.Basics.{if◌then◌else◌};
+ghost use Rattle.std.specs.Prelude.{◌≡◌, ◌+◌, ◌-◌, ◌*◌, ◌≤◌, ◌<◌, ltb, length, if◌then◌else◌};
 ghost use Rattle.meaning.specs.Numbers.{instruction_words};
 ghost use Rattle.table.specs.Table.{first_function};
 ghost use Rattle.entrances.specs.Entrances.{most_words, written_at};

@@ -1,7 +1,6 @@
 -- A term as its symbol sees it: the symbol's word and value, its row of arguments, how many of them are worked out before it, what follows them,
 -- and its one instruction. The pages of `meaning` say the same by kinds of terms; proofs/View.antt joins the two. Assumes nothing.
-use Rattle.std.specs.Prelude.{◌≡◌, refl, List, [], ◌∷◌, ◌++◌, ℕ, zero, suc, ◌+◌, ◌-◌, ◌/◌, ltb, get_or}
-use Rattle.meaning.specs.Basics.{if◌then◌else◌}
+use Rattle.std.specs.Prelude.{◌≡◌, refl, List, [], ◌∷◌, ◌++◌, ℕ, zero, suc, ◌+◌, ◌-◌, ◌/◌, ltb, get_or, if◌then◌else◌}
 use Rattle.meaning.specs.Arithmetic.{add, neg, op_constant}
 use Rattle.meaning.specs.Terms.{Term, arg, op, cond, call, Terms, nil, cons, Program}
 use Rattle.meaning.specs.Code.{size, sizes, count, entrance, row_entrance, entrances, unsorted, Instruction, EVAL, EXEC, SELECT, CALL, code}

@@ -1,4 +1,5 @@
 -- Laws of fields: pieces by place, forms, decimals, packed names. Assumes nothing.
+use Rattle.std.specs.Prelude.{if◌then◌else◌}
 use mathlib.Core.Path.{◌≡◌, refl, ap, sym, ◌∙◌}
 use mathlib.Core.List.{List, [], ◌∷◌}
 use mathlib.Core.Bool.{Bool, true, false, ◌&&◌, and_assoc}
@@ -10,7 +11,7 @@ use lib.ListN.{length, get_or, drop, take, drop_of_length-le, length-drop}
 use lib.Seq.{drop-cons, drop-drop, take_all, get_or-drop, length-take-le}
 use lib.Dec.{ltb, leb, eqb}
 use borrow.Author.Tests.{lt-ltb, le-ltb, eq-eqb, ne_eqb, le-leb, lt-leb, leb-true, leb-false, eqb-true, eqb-false}
-use Rattle.meaning.specs.Basics.{if◌then◌else◌, between, all}
+use Rattle.meaning.specs.Basics.{between, all}
 use Rattle.meaning.specs.Text.{Field, pieces, onto_first, is_visible, is_name, is_count, are_sorts, is_result, is_sort, is_digit, is_capital, value_from, same}
 use Rattle.meaning.specs.Terms.{is_decimal}
 use Rattle.reader.proofs.Laws.{span_within}

@@ -1,6 +1,6 @@
 -- Fields by place: where a piece of a text ends and what stands after it; a field's digit, decimal and number. Assumes nothing.
-use Rattle.std.specs.Prelude.{Bool, ◌||◌, List, [], ◌∷◌, ℕ, suc, ◌+◌, ◌-◌, ◌*◌, leb, ltb, eqb}
-use Rattle.meaning.specs.Basics.{if◌then◌else◌, between, byte}
+use Rattle.std.specs.Prelude.{Bool, ◌||◌, List, [], ◌∷◌, ℕ, suc, ◌+◌, ◌-◌, ◌*◌, leb, ltb, eqb, if◌then◌else◌}
+use Rattle.meaning.specs.Basics.{between, byte}
 use Rattle.meaning.specs.Arithmetic.{modulus}
 use Rattle.meaning.specs.Text.{Field, pieces, is_capital, is_digit, is_count, value}
 use Rattle.meaning.specs.Terms.{is_decimal}

@@ -1,5 +1,6 @@
 -- The frame lemma: what words hold below a level depends on no word above it, so a store above leaves every chain, environment and return as it was.
 -- Assumes nothing.
+use Rattle.std.specs.Prelude.{if◌then◌else◌}
 use mathlib.Core.Path.{◌≡◌, refl, sym, ap}
 use mathlib.Core.Bool.{Bool, true, false}
 use mathlib.Core.List.{List, [], ◌∷◌}
@@ -9,7 +10,6 @@ use lib.Dec.{eqb}
 use lib.ListN.{length, get_or, set}
 use lib.Seq.{get_or-set_same, get_or-set_other}
 use borrow.Author.Tests.{ne_eqb, eqb-true, eqb-false, le-ltb}
-use Rattle.meaning.specs.Basics.{if◌then◌else◌}
 use Rattle.meaning.specs.Numbers.{most_height, most_arguments}
 use Rattle.meaning.specs.Machine.{too_high}
 use Rattle.layout.specs.Layout.{level_words, return_word, link_word, strict_word, size_word, slot_words, values_from, cell, frame, chain, environments, returns, stored, values, holds, Links, Good}

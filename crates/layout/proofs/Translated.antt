@@ -1,4 +1,5 @@
 -- Decoding the words of instructions gives the instructions, so a run over the code words of a program is its run. Assumes nothing.
+use Rattle.std.specs.Prelude.{if◌then◌else◌}
 use mathlib.Core.Path.{◌≡◌, refl, ap, ◌∙◌, fun_ext}
 use mathlib.Core.Bool.{Bool, true, false}
 use mathlib.Core.Option.{Option, none, some}
@@ -10,7 +11,6 @@ use lib.Dec.{ltb, eqb}
 use lib.ListN.{length, get_or, take, replicate, get_elem?, length-append}
 use lib.Seq.{get_or-append-add}
 use borrow.Author.Tests.{ne_eqb, lt-ltb, le-ltb, ltb-true, ltb-false}
-use Rattle.meaning.specs.Basics.{if◌then◌else◌}
 use Rattle.meaning.specs.Arithmetic.{Op, constant, add, sub, mul, div, rem, eq, lt, and, or, neg, op_number, op_constant}
 use Rattle.meaning.specs.Numbers.{instruction_words, most_arguments}
 use Rattle.meaning.specs.Terms.{Program}

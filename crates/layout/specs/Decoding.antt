@@ -1,8 +1,7 @@
 -- From words back to instructions: what the machine reads at an address of any code words.
 -- Assumes nothing.
 use Rattle.std.proofs.Math.Option.{Option, none, some}
-use Rattle.std.specs.Prelude.{List, [], ◌∷◌, ℕ, zero, suc, ◌+◌, ◌-◌, ◌*◌, ltb, eqb, length, get_or}
-use Rattle.meaning.specs.Basics.{if◌then◌else◌}
+use Rattle.std.specs.Prelude.{List, [], ◌∷◌, ℕ, zero, suc, ◌+◌, ◌-◌, ◌*◌, ltb, eqb, length, get_or, if◌then◌else◌}
 use Rattle.meaning.specs.Arithmetic.{number, Op, constant, add, sub, mul, div, rem, eq, lt, and, or, neg}
 use Rattle.meaning.specs.Numbers.{instruction_words, most_arguments}
 use Rattle.meaning.specs.Code.{Instruction, EVAL, EXEC, SELECT, CALL, RET}

@@ -3,9 +3,8 @@
 -- The link is the number of the level whose frame is first in the environment below: that to which a call goes back, and the rest of its own frame's chain.
 -- A level that a waiting argument opened owns no frame. A link always names a lower level, so none dangles, and the frame of a call that has returned is used again.
 -- Of the data stack the top is in a register, the others are words behind the levels. Assumes nothing.
-use Rattle.std.specs.Prelude.{◌≡◌, Bool, false, List, [], ◌∷◌, ◌++◌, map, ℕ, zero, suc, ◌+◌, ◌-◌, ◌*◌, ◌≤◌, ◌<◌, eqb, length, get_or, take, drop}
+use Rattle.std.specs.Prelude.{◌≡◌, Bool, false, List, [], ◌∷◌, ◌++◌, map, ℕ, zero, suc, ◌+◌, ◌-◌, ◌*◌, ◌≤◌, ◌<◌, eqb, length, get_or, take, drop, if◌then◌else◌}
 use Rattle.std.proofs.Common.{arith}
-use Rattle.meaning.specs.Basics.{if◌then◌else◌}
 use Rattle.meaning.specs.Numbers.{most_height, most_arguments, work_words}
 use Rattle.meaning.specs.Machine.{value, waiting, Frame, Environment, Place, stop, at, State, state, Next, next, no_step, zero_division, too_high}
 use Rattle.layout.specs.Decoding.{row}

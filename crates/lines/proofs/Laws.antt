@@ -1,4 +1,5 @@
 -- Laws of lines: field by field, line by line, signatures, packed names, and the scan. Assumes nothing.
+use Rattle.std.specs.Prelude.{if◌then◌else◌}
 use mathlib.Core.Path.{◌≡◌, refl, ap, sym, ◌∙◌, subst}
 use mathlib.Core.List.{List, [], ◌∷◌, map}
 use mathlib.Core.Bool.{Bool, true, false, ◌&&◌}
@@ -10,7 +11,7 @@ use lib.ListN.{length, get_or, drop, take, set, drop_of_length-le, length-drop, 
 use lib.Seq.{drop-cons, drop-drop, length-take-le, take_all, take-suc, get_or-drop, get_or-take}
 use lib.Dec.{leb, eqb}
 use borrow.Author.Tests.{eq-eqb, ne_eqb, le-leb, lt-leb, leb-true, leb-false}
-use Rattle.meaning.specs.Basics.{if◌then◌else◌, all}
+use Rattle.meaning.specs.Basics.{all}
 use Rattle.meaning.specs.Arithmetic.{number, yes_no}
 use Rattle.meaning.specs.Numbers.{no}
 use Rattle.meaning.specs.Text.{Field, fine, Passed, Line, pieces, onto_first, is_visible, is_name, is_capital, is_count, are_sorts, is_result, is_sort, value, value_from, forms, first_wrong, wrong_field, judge_line, judge_lines, judge_shape, sort_of, line_of, all_but_last, lines, judge_symbols, judge_counts}

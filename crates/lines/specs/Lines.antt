@@ -1,6 +1,6 @@
 -- Lines by place, what a look at them answers, their signatures and packed names. Assumes nothing.
-use Rattle.std.specs.Prelude.{◌≡◌, Bool, false, ◌||◌, List, [], ◌∷◌, ◌++◌, map, ℕ, zero, suc, ◌+◌, ◌-◌, ◌<◌, ◌≤◌, eqb, length, get_or, take, drop}
-use Rattle.meaning.specs.Basics.{if◌then◌else◌, byte}
+use Rattle.std.specs.Prelude.{◌≡◌, Bool, false, ◌||◌, List, [], ◌∷◌, ◌++◌, map, ℕ, zero, suc, ◌+◌, ◌-◌, ◌<◌, ◌≤◌, eqb, length, get_or, take, drop, if◌then◌else◌}
+use Rattle.meaning.specs.Basics.{byte}
 use Rattle.meaning.specs.Numbers.{no, LINE, NAME}
 use Rattle.meaning.specs.Text.{Field, fine, refused, Passed, Line, pieces, all_but_last, tab, line_end, lines, is_count, value, are_sorts, is_result, is_visible, forms, wrong_field, judge_shape}
 use Rattle.table.specs.Table.{signature}

@@ -1,6 +1,5 @@
 -- How a run begins in the words, and what registers answer where it ends. Assumes nothing.
-use Rattle.std.specs.Prelude.{◌≡◌, List, ℕ, ◌+◌, ◌<◌, eqb, length, get_or, drop}
-use Rattle.meaning.specs.Basics.{if◌then◌else◌}
+use Rattle.std.specs.Prelude.{◌≡◌, List, ℕ, ◌+◌, ◌<◌, eqb, length, get_or, drop, if◌then◌else◌}
 use Rattle.meaning.specs.Numbers.{no, HALT, work_words}
 use Rattle.meaning.specs.Machine.{start}
 use Rattle.meaning.specs.declared.Answer.{Answer}

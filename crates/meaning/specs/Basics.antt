@@ -3,12 +3,6 @@ use Rattle.std.specs.Prelude.{◌≡◌, refl, Bool, true, false, ◌&&◌, List
 use Prim.Native.Char.{Char, code}
 use Prim.Native.String.{String, [] as []ˢ, ◌∷◌ as ◌∷ˢ◌}
 
--- A choice by a test.
-infix 10 if◌then◌else◌
-abbrev pub if◌then◌else◌ : {A : Type 0} → Bool → A → A → A
-if true then a else b = a
-if false then a else b = b
-
 -- Whether x is one of the numbers from a to b.
 abbrev pub between : ℕ → ℕ → ℕ → Bool
 between a b x = leb a x && leb x b

@@ -1,6 +1,6 @@
 -- Document 01, 'The program': from standard input to the one line of output. Assumes nothing.
-use Rattle.std.specs.Prelude.{◌≡◌, refl, Bool, true, ◌&&◌, List, [], ◌∷◌, ◌++◌, map, ℕ, ◌+◌, ◌*◌, ◌/◌, ◌%◌, leb, eqb, length, drop}
-use Rattle.meaning.specs.Basics.{if◌then◌else◌, byte, bytes}
+use Rattle.std.specs.Prelude.{◌≡◌, refl, Bool, true, ◌&&◌, List, [], ◌∷◌, ◌++◌, map, ℕ, ◌+◌, ◌*◌, ◌/◌, ◌%◌, leb, eqb, length, drop, if◌then◌else◌}
+use Rattle.meaning.specs.Basics.{byte, bytes}
 use Rattle.meaning.specs.Numbers.{no, ARGS, most_symbols, most_arguments, instruction_words, work_words}
 use Rattle.meaning.specs.Text.{Field, pieces, tab, line_end, value}
 use Rattle.meaning.specs.Terms.{is_decimal}

@@ -1,9 +1,9 @@
 -- Document 01, 'Rule text': symbols, terms, and how a body is read into one term of its sort. Assumes nothing.
-use Rattle.std.specs.Prelude.{Bool, true, false, ◌&&◌, List, [], ◌∷◌, map, ℕ, zero, suc, ◌+◌, ◌-◌, ltb, length}
+use Rattle.std.specs.Prelude.{Bool, true, false, ◌&&◌, List, [], ◌∷◌, map, ℕ, zero, suc, ◌+◌, ◌-◌, ltb, length, if◌then◌else◌}
 use Rattle.std.proofs.Math.Option.{Option, none, some}
 use Prim.Native.String.{String}
 use Rattle.std.proofs.Math.ListN.{get_elem?}
-use Rattle.meaning.specs.Basics.{if◌then◌else◌, between, all, byte, bytes}
+use Rattle.meaning.specs.Basics.{between, all, byte, bytes}
 use Rattle.meaning.specs.Arithmetic.{modulus, Sort, number, yes_no, Op, constant, add, sub, mul, div, rem, eq, lt, and, or, neg, domain, range}
 use Rattle.meaning.specs.Numbers.{Number, TERM, NEST, UNKNOWN, SORT, SHORT, most_depth}
 use Rattle.meaning.specs.Text.{Verdict, fine, refused, ◌>>=◌, Field, Line, is_digit, value, same}

@@ -1,6 +1,6 @@
 -- Document 01, 'Rule text': bytes, fields and lines, and what is wrong with a line's shape, with the counts or with the names. Assumes nothing.
-use Rattle.std.specs.Prelude.{◌≡◌, refl, Bool, true, false, ◌&&◌, ◌||◌, List, [], ◌∷◌, ◌++◌, map, ℕ, zero, suc, ◌+◌, ◌-◌, ◌*◌, leb, eqb, length, get_or, drop}
-use Rattle.meaning.specs.Basics.{if◌then◌else◌, between, all, byte, bytes}
+use Rattle.std.specs.Prelude.{◌≡◌, refl, Bool, true, false, ◌&&◌, ◌||◌, List, [], ◌∷◌, ◌++◌, map, ℕ, zero, suc, ◌+◌, ◌-◌, ◌*◌, leb, eqb, length, get_or, drop, if◌then◌else◌}
+use Rattle.meaning.specs.Basics.{between, all, byte, bytes}
 use Rattle.meaning.specs.Arithmetic.{Sort, number, yes_no}
 use Rattle.meaning.specs.Numbers.{Number, LONG, LINE, COUNT, NAME, most_bytes, most_functions, most_symbols, most_arguments}
 

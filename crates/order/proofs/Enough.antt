@@ -1,5 +1,6 @@
 -- The program's output is settled by the first 16,514 bytes of its input: the longest first line with its end, and one byte more than the longest
 -- text. Assumes nothing.
+use Rattle.std.specs.Prelude.{if◌then◌else◌}
 use mathlib.Core.Path.{◌≡◌, refl, ap, sym, ◌∙◌}
 use mathlib.Core.Bool.{Bool, true, false}
 use mathlib.Core.List.{List, [], ◌∷◌}
@@ -10,7 +11,6 @@ use lib.Dec.{eqb}
 use lib.ListN.{length, take, drop, length-take, length-drop}
 use lib.Seq.{take_all, take-take}
 use borrow.Author.Tests.{lt-leb}
-use Rattle.meaning.specs.Basics.{if◌then◌else◌}
 use Rattle.meaning.specs.Numbers.{LONG, most_bytes}
 use Rattle.meaning.specs.Text.{Field, refused, pieces, tab, line_end, ◌>>=◌, ◌>>◌, judge_length}
 use Rattle.meaning.specs.Check.{check}

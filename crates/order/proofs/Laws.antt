@@ -1,4 +1,5 @@
 -- Laws of first lines: one argument more, and what the whole line asks for. Assumes nothing.
+use Rattle.std.specs.Prelude.{if◌then◌else◌}
 use mathlib.Core.Path.{◌≡◌, refl, ap, sym, subst, ◌∙◌}
 use mathlib.Core.Bool.{Bool, true, false, ◌&&◌}
 use mathlib.Core.Option.{Option, none, some}
@@ -11,7 +12,6 @@ use lib.Dec.{leb, leb-suc-suc}
 use lib.ListN.{length, take, drop, set, length-take, length-append}
 use lib.Seq.{take-suc-set}
 use borrow.Author.Tests.{le-leb, lt-leb, leb-true, leb-false}
-use Rattle.meaning.specs.Basics.{if◌then◌else◌}
 use Rattle.meaning.specs.Text.{Field, pieces, tab, line_end, value}
 use Rattle.meaning.specs.Terms.{is_decimal}
 use Rattle.meaning.specs.Program.{malformed, order, are_decimals, is_first_line, limit_and_arguments, ordered, order_of}

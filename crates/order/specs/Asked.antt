@@ -1,7 +1,6 @@
 -- What a first line asks for, argument by argument. Assumes nothing.
-use Rattle.std.specs.Prelude.{◌≡◌, true, false, List, [], ◌∷◌, ◌++◌, ℕ, ◌≤◌, leb, length, take, drop}
+use Rattle.std.specs.Prelude.{◌≡◌, true, false, List, [], ◌∷◌, ◌++◌, ℕ, ◌≤◌, leb, length, take, drop, if◌then◌else◌}
 use Rattle.std.proofs.Math.Option.{Option, none, some}
-use Rattle.meaning.specs.Basics.{if◌then◌else◌}
 use Rattle.meaning.specs.Numbers.{most_arguments}
 use Rattle.meaning.specs.Text.{Field, value}
 use Rattle.meaning.specs.Terms.{is_decimal}

@@ -1,4 +1,5 @@
 -- Laws of the distance to the first byte b. Assumes nothing.
+use Rattle.std.specs.Prelude.{if◌then◌else◌}
 use mathlib.Core.Path.{◌≡◌}
 use mathlib.Core.List.{List, [], ◌∷◌}
 use mathlib.Core.Bool.{Bool, true, false}
@@ -9,7 +10,6 @@ use lib.ListN.{length, get_or, drop, drop_of_length-le}
 use lib.Seq.{drop-cons}
 use lib.Dec.{eqb}
 use borrow.Author.Tests.{eq-eqb, ne_eqb}
-use Rattle.meaning.specs.Basics.{if◌then◌else◌}
 use Rattle.reader.specs.Span.{span}
 
 -- at the end, at a byte b, and at another byte

@@ -1,6 +1,5 @@
 -- How far it is to the first byte b. Assumes nothing.
-use Rattle.std.specs.Prelude.{List, [], ◌∷◌, ℕ, suc, eqb}
-use Rattle.meaning.specs.Basics.{if◌then◌else◌}
+use Rattle.std.specs.Prelude.{List, [], ◌∷◌, ℕ, suc, eqb, if◌then◌else◌}
 
 -- How many bytes stand before the first byte b; all of them where there is none.
 unfoldable pub span : ℕ → List ℕ → ℕ

@@ -1,4 +1,5 @@
 -- Laws of Check's core: the initial term, the order of refusals, arrays that fit, and the table of an accepted text. Assumes nothing.
+use Rattle.std.specs.Prelude.{if◌then◌else◌}
 use mathlib.Core.Path.{◌≡◌, refl, ap, sym, ◌∙◌, subst}
 use mathlib.Core.Bool.{Bool, true, false}
 use mathlib.Core.List.{List, [], ◌∷◌, ◌++◌, map, map-append, append_assoc, append-nil}
@@ -8,7 +9,6 @@ use native.Mathlib.Numerals.{add-one}
 use lib.Dec.{leb}
 use lib.ListN.{length, get_or, take, drop, set, length-map, take-append-drop}
 use borrow.Author.Tests.{leb-true, leb-false, lt-leb, le-leb}
-use Rattle.meaning.specs.Basics.{if◌then◌else◌}
 use Rattle.meaning.specs.Numbers.{Number, no, LONG, COUNT}
 use Rattle.meaning.specs.Text.{Field, Line, Verdict, fine, refused, Passed, ◌>>◌, pieces, judge_length, judge_shape, judge_lines, judge_symbols, judge_counts, judge_names, is_among, lines}
 use Rattle.meaning.specs.Terms.{Function, Program, read_bodies}

@@ -1,4 +1,5 @@
 -- Laws of symbols: what stands for them in the table, the symbols of one byte, packed names in the loop, decimals. Assumes nothing.
+use Rattle.std.specs.Prelude.{if◌then◌else◌}
 use mathlib.Core.Path.{◌≡◌, refl, sym, ◌∙◌}
 use mathlib.Core.List.{List}
 use mathlib.Core.Bool.{Bool, true, false, ◌&&◌}
@@ -9,7 +10,7 @@ use lib.Dec.{T, eqb, eqb→eq}
 use lib.ListN.{length, get_or, drop, drop_of_length-le}
 use lib.Seq.{drop-cons}
 use borrow.Author.Tests.{eq-eqb, ne_eqb}
-use Rattle.meaning.specs.Basics.{if◌then◌else◌, all}
+use Rattle.meaning.specs.Basics.{all}
 use Rattle.meaning.specs.Arithmetic.{number, constant, op_constant}
 use Rattle.meaning.specs.Text.{Field, same, value, value_from}
 use Rattle.meaning.specs.Terms.{Symbol, argument, operation, condition, function, unknown, spelt_in, named, is_decimal, symbol}

@@ -1,4 +1,5 @@
 -- A symbol by packed names is the definition's symbol, and packed names are the same where names are. Assumes nothing.
+use Rattle.std.specs.Prelude.{if◌then◌else◌}
 use mathlib.Core.Path.{◌≡◌, refl, ap, sym, ◌∙◌}
 use mathlib.Core.List.{List, [], ◌∷◌, map}
 use mathlib.Core.Bool.{Bool, true, false, ◌&&◌, ◌||◌}
@@ -7,7 +8,7 @@ use native.Mathlib.Omega.{arith}
 use lib.Dec.{ltb, leb, eqb}
 use lib.ListN.{length}
 use borrow.Author.Tests.{ne_eqb, ltb-true, leb-true}
-use Rattle.meaning.specs.Basics.{if◌then◌else◌, all, between, bytes}
+use Rattle.meaning.specs.Basics.{all, between, bytes}
 use Rattle.meaning.specs.Arithmetic.{number, yes_no, constant}
 use Rattle.meaning.specs.Text.{Field, same, value, is_name, is_visible, is_capital, is_digit}
 use Rattle.meaning.specs.Terms.{Symbol, operation, condition, function, unknown, Word, vocabulary, spelt_in, named, is_decimal, symbol}

@@ -1,6 +1,6 @@
 -- What is recognised in a field, and symbols by packed names. Assumes nothing.
-use Rattle.std.specs.Prelude.{◌≡◌, true, List, [], ◌∷◌, ℕ, ◌+◌, ◌-◌, ◌<◌, ltb, leb, eqb, length, get_or}
-use Rattle.meaning.specs.Basics.{if◌then◌else◌, byte, bytes}
+use Rattle.std.specs.Prelude.{◌≡◌, true, List, [], ◌∷◌, ℕ, ◌+◌, ◌-◌, ◌<◌, ltb, leb, eqb, length, get_or, if◌then◌else◌}
+use Rattle.meaning.specs.Basics.{byte, bytes}
 use Rattle.meaning.specs.Arithmetic.{number, yes_no, constant}
 use Rattle.meaning.specs.Numbers.{most_arguments}
 use Rattle.meaning.specs.Text.{Field, value, is_name}

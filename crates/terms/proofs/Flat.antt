@@ -1,4 +1,5 @@
 -- A term as its symbols in prefix order, and that reading takes a term's symbols from what it reads. Assumes nothing.
+use Rattle.std.specs.Prelude.{if◌then◌else◌}
 use mathlib.Core.Path.{◌≡◌, refl, ap, sym, ◌∙◌, subst}
 use mathlib.Core.Bool.{Bool, true, false}
 use mathlib.Core.Option.{Option, none, some}
@@ -6,7 +7,6 @@ use mathlib.Core.List.{List, [], ◌∷◌, ◌++◌, map, append_assoc, append-
 use Prim.Native.Nat.{ℕ, zero, suc, ◌+◌, ◌<◌, ◌≤◌}
 use native.Mathlib.Omega.{arith}
 use lib.ListN.{length, length-append, get_elem?}
-use Rattle.meaning.specs.Basics.{if◌then◌else◌}
 use Rattle.meaning.specs.Arithmetic.{Sort, yes_no, Op, op_constant}
 use Rattle.meaning.specs.Text.{Line}
 use Rattle.meaning.specs.Terms.{Term, arg, op, cond, call, Terms, nil, cons, Symbol, argument, operation, condition, function, unknown, Takes, takes, cannot, Read, got, fault, first_terms, other_terms, strict_of, condition_of, applied, with_arguments, and_more, then_more, read_row, read_taken, read_term, argument_takes, takes_of, same_sort, if_sort}

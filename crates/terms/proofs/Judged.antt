@@ -1,4 +1,5 @@
 -- What a symbol takes by its word is what it takes by the definition. Assumes nothing.
+use Rattle.std.specs.Prelude.{if◌then◌else◌}
 use mathlib.Core.Path.{◌≡◌, refl, ap, sym, ◌∙◌}
 use mathlib.Core.Bool.{Bool, true, false}
 use mathlib.Core.Option.{none}
@@ -9,7 +10,6 @@ use native.Mathlib.Nat.{pow-succ', div-div-eq-div-mul}
 use lib.ListN.{length, get_or, get_elem?}
 use lib.Dec.{ltb, eqb}
 use borrow.Author.Tests.{lt-ltb, le-ltb, ne_eqb, ltb-true, ltb-false}
-use Rattle.meaning.specs.Basics.{if◌then◌else◌}
 use Rattle.meaning.specs.Arithmetic.{Sort, number, yes_no, Op, constant, add, sub, mul, div, rem, eq, lt, and, or, neg, domain, range}
 use Rattle.meaning.specs.Text.{Line}
 use Rattle.meaning.specs.Terms as means

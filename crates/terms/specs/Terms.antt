@@ -1,6 +1,5 @@
 -- Terms over words: what a symbol takes by its word, and what reading a term answers and leaves in the table of ends. Assumes nothing.
-use Rattle.std.specs.Prelude.{◌≡◌, List, [], ◌∷◌, map, ℕ, ◌+◌, ◌-◌, ◌*◌, ◌/◌, ◌%◌, ◌^◌, ◌≤◌, ltb, eqb, length, get_or, drop}
-use Rattle.meaning.specs.Basics.{if◌then◌else◌}
+use Rattle.std.specs.Prelude.{◌≡◌, List, [], ◌∷◌, map, ℕ, ◌+◌, ◌-◌, ◌*◌, ◌/◌, ◌%◌, ◌^◌, ◌≤◌, ltb, eqb, length, get_or, drop, if◌then◌else◌}
 use Rattle.meaning.specs.Numbers.{most_arguments, most_depth}
 use Rattle.meaning.specs.Arithmetic.{Sort}
 use Rattle.meaning.specs.Text.{Line}

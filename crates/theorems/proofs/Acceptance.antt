@@ -1,4 +1,5 @@
 -- Seventh: an accepted text is a program whose every term has its sort, and the entry call at fitting arguments has one too. Assumes nothing.
+use Rattle.std.specs.Prelude.{if◌then◌else◌}
 use mathlib.Core.Path.{◌≡◌, refl, ap, sym, ◌∙◌, subst}
 use mathlib.Core.Bool.{Bool, true, false}
 use mathlib.Core.Option.{Option, none, some}
@@ -8,7 +9,6 @@ use native.Mathlib.Omega.{arith}
 use lib.ListN.{length, take, drop, get_elem?, length-drop}
 use lib.Seq.{drop-cons, take_all}
 use borrow.Author.Tests.{leb-true}
-use Rattle.meaning.specs.Basics.{if◌then◌else◌}
 use Rattle.meaning.specs.Arithmetic.{Sort, number, yes_no, constant, domain}
 use Rattle.meaning.specs.Numbers.{most_depth}
 use Rattle.meaning.specs.Text.{Verdict, fine, refused, ◌>>=◌, ◌>>◌, Field, value, judge_shape, Line, lines, judge_length, judge_counts, judge_names, same as same-field}

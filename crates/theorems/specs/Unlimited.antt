@@ -1,10 +1,9 @@
 -- The machine without limits: document 000's machine, which goes on for as long as there is a next step. Its state after n steps, what it made
 -- on the way, and how high its stacks stand. Assumes nothing.
-use Rattle.std.specs.Prelude.{◌≡◌, refl, Bool, true, false, List, [], ◌∷◌, ℕ, zero, suc, ◌+◌, length}
+use Rattle.std.specs.Prelude.{◌≡◌, refl, Bool, true, false, List, [], ◌∷◌, ℕ, zero, suc, ◌+◌, length, if◌then◌else◌}
 use Rattle.std.proofs.Math.Option.{Option, none, some}
 use Prim.Native.String.{String}
 use Rattle.std.proofs.Math.ListN.{get_elem?}
-use Rattle.meaning.specs.Basics.{if◌then◌else◌}
 use Rattle.meaning.specs.Arithmetic.{apply, of_none, of_one, of_two, unless_zero, of_divided, sum, difference, product, quotient, remainder, equal, less, both, either, opposite}
 use Rattle.meaning.specs.Terms.{Program}
 use Rattle.meaning.specs.Check.{check_text, found}

@@ -1,7 +1,6 @@
 -- What an operation comes to by its number, as the code words have it, and that it is the operation of meaning with this number. Assumes nothing.
-use Rattle.std.specs.Prelude.{◌≡◌, refl, [], ◌∷◌, ℕ, zero, suc, eqb, length}
+use Rattle.std.specs.Prelude.{◌≡◌, refl, [], ◌∷◌, ℕ, zero, suc, eqb, length, if◌then◌else◌}
 use Rattle.std.proofs.Common.{arith}
-use Rattle.meaning.specs.Basics.{if◌then◌else◌}
 use Rattle.meaning.specs.Arithmetic.{sum, difference, product, quotient, remainder, equal, less, both, either, Op, constant, add, sub, mul, div, rem, eq, lt, and, or, neg, op_number, domain, Applied, gives, by_zero, apply, of_two, unless_zero, of_divided}
 use Rattle.word.specs.declared.Worked.{Worked}
 use Rattle.word.specs.declared.Worked.TheVariants.{Value, ByZero}
