@@ -4,7 +4,7 @@
 [ -z "${NESPRALHA_PROGRAM:-}" ] || export NESPRALHA_PROGRAM=$(realpath -e "$NESPRALHA_PROGRAM")
 cd "$(dirname "${BASH_SOURCE[0]}")/../.."
 if [ -z "${NESPRALHA_ARCHIVE:-}" ]; then
-    rt staticlib nespralha
+    bash tools/build
     NESPRALHA_ARCHIVE=$PWD/target/staticlib/libnespralha.a
 fi
 export NESPRALHA_ARCHIVE

@@ -1,6 +1,5 @@
 // The reader of fields: it holds the text it was lent and the place it has reached; nothing is copied out of the text.
-// `new`, `next` and `at` are thin and proved by hand over the covered `first_at`; `field` is the plain function above them that `fields::piece_end`
-// goes through, and whoever calls it needs no proof by hand. Assumes nothing.
+// `new`, `next` and `at` are thin, over `first_at`; `field` is the plain function above them that `fields::piece_end` goes through. Assumes nothing.
 #![tactic(auto)]
 
 ghost use Rattle.std.specs.Prelude.{◌≡◌, ◌+◌, drop};
