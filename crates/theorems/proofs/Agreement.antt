@@ -1,4 +1,4 @@
--- Trees and leftmost rewriting agree: a tree's term reaches its value in the tree's rewrites, and where a TermSorted term reaches a value there is a tree
+-- Trees and leftmost rewriting agree: a tree's term reaches its value in the tree's rewrites, and where a sorted term reaches a value there is a tree
 -- with as many. Assumes nothing.
 use mathlib.Core.Path.{◌≡◌, refl, ap, sym, ◌∙◌, subst}
 use mathlib.Core.Logic.{inl, inr}

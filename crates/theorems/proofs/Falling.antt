@@ -1,4 +1,4 @@
--- Falls and leftmost rewriting agree: the term of a fall meets a division by 0 after the fall's rewrites, and where a TermSorted term meets one there is a fall
+-- Falls and leftmost rewriting agree: the term of a fall meets a division by 0 after the fall's rewrites, and where a sorted term meets one there is a fall
 -- with as many. Assumes nothing.
 use mathlib.Core.Path.{◌≡◌, refl, subst}
 use mathlib.Core.Logic.{inl, inr}

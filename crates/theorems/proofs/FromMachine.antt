@@ -1,4 +1,4 @@
--- Fifth: machine to trees. From the entrance of a TermSorted term the machine has a tree's value or a fall's division by 0 to come to, or goes on for as many
+-- Fifth: machine to trees. From the entrance of a sorted term the machine has a tree's value or a fall's division by 0 to come to, or goes on for as many
 -- steps as one likes: it never stands without a next step elsewhere, and never stops with anything else. By the number of steps. Assumes nothing.
 use mathlib.Core.Path.{◌≡◌, subst}
 use mathlib.Core.Logic.{◌⊎◌, inl, inr, ⊎_elim, ⊎_map}
@@ -43,7 +43,7 @@ module _ (P : Program) where
   RowValue e ts S = ((vs : List ℕ) × Row P e ts vs × OfSorts S vs) ⊎ RowFall P e ts
 
 module _ (P : Program) (C : ℕ → Option Instruction) (bodies : List ℕ) (ret : ℕ) where
-  -- A term has its value within N steps, in any chain that it is TermSorted in and wherever the code HoldsTerm it.
+  -- A term has its value within N steps, in any chain that it is sorted in and wherever the code holds it.
   abbrev pub ValueWithin : ℕ → Term → Type 0
   ValueWithin N t =
       (e : Chain) (G : List Sort) (s : Sort) (a b : ℕ) (E : Environment) (rs : List Place) (ds : List ℕ) (es : List Environment)

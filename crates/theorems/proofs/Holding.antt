@@ -1,4 +1,4 @@
--- The translation of a program HoldsTerm what the proofs ask of code: the initial term and every body stand where their entrances say, each symbol's
+-- The translation of a program holds what the proofs ask of code: the initial term and every body stand where their entrances say, each symbol's
 -- instruction at its address, and RET is at the last one. Assumes nothing.
 use mathlib.Core.Path.{◌≡◌, refl, ap, subst}
 use mathlib.Core.Option.{Option, some}
@@ -12,7 +12,7 @@ use Rattle.accepted.proofs.Length.{length_code, length_strict, translation_lengt
 use Rattle.theorems.specs.Unlimited.{code_of}
 use Rattle.theorems.proofs.Splitting.{clash}
 
--- C HoldsTerm the instructions of a term at address a where b follows it; of a row that is worked out before the symbol at `home`; of a row that waits.
+-- C holds the instructions of a term at address a where b follows it; of a row that is worked out before the symbol at `home`; of a row that waits.
 module _ (C : ℕ → Option Instruction) (bodies : List ℕ) (ret : ℕ) where
   unfoldable mutual
     pub HoldsTerm : Term → ℕ → ℕ → Type 0
@@ -43,7 +43,7 @@ pub record Loaded (P : Program) (C : ℕ → Option Instruction) (bodies : List 
   pub body_held : (f : ℕ) (F : Function) → get_elem? P f ≡ some F
       → (a : ℕ) × (get_or bodies f 0 ≡ entrance F.body a) × HoldsTerm C bodies ret F.body a ret
 
--- A list of instructions Stands in the code from address a on.
+-- A list of instructions stands in the code from address a on.
 
 unfoldable Stands : (ℕ → Option Instruction) → ℕ → List Instruction → Type 0
 Stands C a [] = Unit {0}

@@ -1,4 +1,4 @@
--- A TermSorted ClosedSorted term is a value of its sort, meets a division by 0, or has one successor, which is TermSorted again (document 000, Lemma 43, with divisions).
+-- A sorted closed term is a value of its sort, meets a division by 0, or has one successor, which is sorted again (document 000, Lemma 43, with divisions).
 -- So rewriting an accepted text's entry call never comes to a term that no rule fits. Assumes nothing.
 use mathlib.Core.Path.{◌≡◌, refl, ap, ◌∙◌, subst}
 use mathlib.Core.Logic.{◌⊎◌, inl, inr}
@@ -15,7 +15,7 @@ use Rattle.theorems.proofs.Splitting.{clash}
 use Rattle.theorems.proofs.Sorts.{OfSort, OfSorts, ConstantSorted, TermSorted, RowSorted, Sorted, apply_sorted, Result}
 
 module _ (P : Program) where
-  -- A ClosedSorted term of sort s, and a row of ClosedSorted terms of the sorts S.
+  -- A closed term of sort s, and a row of closed terms of the sorts S.
   unfoldable mutual
     pub ClosedSorted : Closed → Sort → Type 0
     ClosedSorted (val v) s = OfSort s v
