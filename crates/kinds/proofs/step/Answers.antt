@@ -5,6 +5,7 @@ use Rattle.meaning.specs.Numbers.{instruction_words}
 use Rattle.meaning.specs.Machine.{obey}
 use Rattle.layout.proofs.Reading.{reads_nothing, reads_eval, reads_exec, reads_select, reads_call, reads_ret, reads_other}
 use Rattle.kinds.proofs.Meeting.{meets_read, meets_stuck}
+use borrow.Author.Rules.{rules}
 use Rattle.kinds.proofs.step.Goals as goal
 
 pub returns-then-code-base : goal.returns-then-code-base
@@ -35,5 +36,4 @@ returns-in-5 c =
 pub returns-in_default : goal.returns-in_default
 unfolding obey
 returns-in_default c =
-    let other = c.in_default.in_default-own.rest in
-    meets_stuck _ _ _ _ _ (rw (reads_other c.args.code.now c.args.s.at _ (ap (λ (n : ℕ). instruction_words * n) c.wide-base.ensures) c.if-code-base.false other.0.0.0.0.1 other.0.0.0.1 other.0.0.1 other.0.1 other.1)) c.ended-in_default.ensures
+    meets_stuck _ _ _ _ _ (rw (reads_other c.args.code.now c.args.s.at _ (ap (λ (n : ℕ). instruction_words * n) c.wide-base.ensures) c.if-code-base.false (search rules) (search rules) (search rules) (search rules) (search rules))) c.ended-in_default.ensures

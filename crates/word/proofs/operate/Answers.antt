@@ -1,6 +1,7 @@
 -- `word::operate` meets its contract. Assumes nothing.
 use mathlib.Core.Path.{ap}
-use borrow.Author.Tests.{ne_eqb}
+use borrow.Author.Rules.{rules}
+use Rattle.std.proofs.Common.{tests}
 use Rattle.meaning.specs.Arithmetic.{difference}
 use Rattle.word.specs.declared.Worked.TheVariants.{Value}
 use Rattle.word.specs.Operated.{operated}
@@ -44,4 +45,4 @@ returns-in-9 c = rw c.in-9.is (ap Value c.or.ensures)
 
 pub returns-in_default : goal.returns-in_default
 unfolding operated
-returns-in_default c = simp (ne_eqb _ _ c.in_default.in_default-own.rest.0.0.0.0.0.0.0.0.1, ne_eqb _ _ c.in_default.in_default-own.rest.0.0.0.0.0.0.0.1, ne_eqb _ _ c.in_default.in_default-own.rest.0.0.0.0.0.0.1, ne_eqb _ _ c.in_default.in_default-own.rest.0.0.0.0.0.1, ne_eqb _ _ c.in_default.in_default-own.rest.0.0.0.0.1, ne_eqb _ _ c.in_default.in_default-own.rest.0.0.0.1, ne_eqb _ _ c.in_default.in_default-own.rest.0.0.1, ne_eqb _ _ c.in_default.in_default-own.rest.0.1, ne_eqb _ _ c.in_default.in_default-own.rest.1)
+returns-in_default c = search (tests, rules)
