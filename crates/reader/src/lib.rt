@@ -1,5 +1,5 @@
 // The reader of fields: it holds the text it was lent and the place it has reached; nothing is copied out of the text.
-// `new`, `next` and `at` are thin, over `first_at`; `field` is the plain function above them that `fields::piece_end` goes through. Assumes nothing.
+// `new`, `at` and, over `first_at`, `next` are thin; `field` is the plain function above them that `fields::piece_end` goes through. Assumes nothing.
 #![tactic(auto)]
 
 ghost use Rattle.std.specs.Prelude.{◌≡◌, ◌+◌, drop};

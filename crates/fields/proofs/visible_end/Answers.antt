@@ -1,4 +1,4 @@
--- src/lib.rt:75:5
+-- `fields::visible_end` meets its contract. Assumes nothing.
 use Rattle.fields.proofs.Laws as laws
 use native.Mathlib.Omega.{arith}
 use mathlib.Core.Path.{sym, ◌∙◌}
