@@ -1,33 +1,34 @@
--- What is known once a text is read, and what Translate and Run then come to. Assumes nothing.
-use Rattle.std.specs.Prelude.{◌≡◌, List, ◌++◌, ℕ, ◌≤◌, length, take, drop}
+-- What is known once a text is read, and what Check, Translate and Run then come to. Assumes nothing.
+use Rattle.std.specs.Prelude.{◌≡◌, List, ℕ, Result, length}
 use Rattle.meaning.specs.Text.{fine}
 use Rattle.meaning.specs.Terms.{Program}
 use Rattle.meaning.specs.Check.{check}
-use Rattle.meaning.specs.Answers.{checked, check_answer, check_heads, translate_answer, translate_code, run_answer, run_code, run_work}
-use Rattle.meaning.specs.declared.Checked.{Checked}
+use Rattle.meaning.specs.Machine.{run_program}
+use Rattle.meaning.specs.Answers.{admit_check, check_heads, admit_translate, translate_code, admit_run, ran, run_code, run_work}
+use Rattle.meaning.specs.Said.{found, accepted}
+use Rattle.meaning.specs.declared.Accepted.{Accepted}
+use Rattle.meaning.specs.declared.Refusal.{Refusal}
 use Rattle.meaning.specs.declared.Answer.{Answer}
 use Rattle.meaning.specs.declared.Head.{Head}
-use Rattle.meaning.specs.Numbers.{most_functions}
-use Rattle.answers.specs.declared.Found.{Found}
 use Rattle.table.specs.Table.{Holds}
+use Rattle.table.specs.declared.Signature.{Signature}
+use Rattle.table.specs.declared.Symbol.{Symbol}
 
--- The text is judged as c says, and its table stands in the slices where it is accepted.
-pub record IsRead (text : List ℕ) (c : Checked) (words values ends heads bodies : List ℕ) : Type 0 where
-  pub judged : c ≡ checked (check text)
-  pub held : (P : Program) → check text ≡ fine P → Holds P words values ends heads bodies
+-- Reading the text has answered r, and where the text is accepted its table stands in the slices.
+pub record IsRead (text : List ℕ) (r : Result Accepted Refusal) (symbols : List Symbol) (ends : List ℕ) (heads : List Signature) (bodies : List ℕ) : Type 0 where
+  pub answer : r ≡ found accepted (check text)
+  pub held : (P : Program) → check text ≡ fine P → Holds P symbols ends heads bodies
 
--- The answer and the code afterwards are Translate's.
-unfoldable pub TranslateOutcome : List ℕ → List ℕ → Checked → List ℕ → Type 0
-TranslateOutcome text code r code' = (r ≡ translate_answer text (length code)) × (code' ≡ translate_code text code)
+-- What is found, and the heads afterwards, are Check's.
+unfoldable pub CheckOutcome : List ℕ → List Head → Result Accepted Refusal → List Head → Type 0
+CheckOutcome text heads r heads' = (r ≡ found accepted (admit_check text (length heads))) × (heads' ≡ check_heads text heads)
 
--- The answer, the code and the work words afterwards are Run's.
-unfoldable pub RunOutcome : List ℕ → List ℕ → ℕ → List ℕ → List ℕ → Answer → List ℕ → List ℕ → Type 0
+-- What is found, and the code afterwards, are Translate's.
+unfoldable pub TranslateOutcome : List ℕ → List ℕ → Result Accepted Refusal → List ℕ → Type 0
+TranslateOutcome text code r code' = (r ≡ found accepted (admit_translate text (length code))) × (code' ≡ translate_code text code)
+
+-- What is found, and the code and the work words afterwards, are Run's.
+unfoldable pub RunOutcome : List ℕ → List ℕ → ℕ → List ℕ → List ℕ → Result Answer Refusal → List ℕ → List ℕ → Type 0
 RunOutcome text args limit code work r code' work' =
-    (r ≡ run_answer text args limit (length code) (length work)) × (code' ≡ run_code text args code (length work)) × (work' ≡ run_work text args (length code) work)
-
--- What is found is Check's answer, and the heads to be written make Check's of a lent slice that is as long as the room.
-pub record CheckFound (text : List ℕ) (room : ℕ) (r : Found) : Type 0 where
-  pub judged : r.answer ≡ check_answer text room
-  pub written : (hs : List Head) → length hs ≡ room → take r.n r.heads.list ++ drop r.n hs ≡ check_heads text hs
-  pub in_room : r.n ≤ room
-  pub few : r.n ≤ most_functions
+    (r ≡ found (λ P. ran (run_program P args limit)) (admit_run text args (length code) (length work))) × (code' ≡ run_code text args code (length work))
+    × (work' ≡ run_work text args (length code) work)

@@ -2,172 +2,75 @@
 // line and its fields end), one to make a symbol of a field, one comparison a function for a name. Assumes nothing.
 #![tactic(auto)]
 
-ghost use Rattle.std.specs.Prelude.{◌≡◌, map, ◌+◌, ◌-◌, ◌≤◌, ◌<◌, length, drop, set};
+ghost use Rattle.std.specs.Prelude.{◌≡◌, map, ◌+◌, ◌-◌, ◌≤◌, ◌<◌, length, drop};
 ghost use Rattle.meaning.specs.Arithmetic.{modulus};
-ghost use Rattle.meaning.specs.Numbers.{no, most_bytes, most_functions};
-ghost use Rattle.meaning.specs.Text.{wrong_field, pieces, lines};
-ghost use Rattle.meaning.specs.Terms.{wrong_number, read_bodies};
+ghost use Rattle.meaning.specs.Numbers.{most_bytes, most_functions};
+ghost use Rattle.meaning.specs.Text.{tab, lines};
+ghost use Rattle.meaning.specs.Terms.{read_bodies};
 ghost use Rattle.fields.specs.Fields.{rest};
-ghost use Rattle.symbols.specs.Symbols.{word_of, value_of};
 ghost use Rattle.lines.specs.Splice.{splice};
-ghost use Rattle.lines.specs.Lines.{body_fields, total, Right, raw_lines, name_number, line_signature};
-ghost use Rattle.bodies.specs.Bodies.{words_by, values_by, Lined, Reaches, Finishes};
+ghost use Rattle.lines.specs.Lines.{total, Right, raw_lines, name_number, line_signature};
+ghost use Rattle.bodies.specs.Bodies.{symbols_by, Finishes, refused_at};
 
-use meaning::Wrong;
-use symbols::Recognised;
-use terms::Reached;
+use lines::{LineFields, Lines};
+use meaning::{Number, Refusal};
+use table::{Signature, Symbol};
+use terms::{Body, Fault};
 
-// What reading all bodies comes to: the address after the last, or number, line and field.
-#[derive(Clone, Copy)]
-pub enum Finished {
-    Done(usize),
-    Refused(u32, u32, u32),
-}
-
-// The field of a body's first symbol.
-const FIRST_SYMBOL: usize = 5;
-
-// What was recognised, into the table at j.
-fn put(y: Recognised, j: usize, words: &mut [u32], values: &mut [u32])
-    requires { (j < length words.old) × (j < length values.old) }
-    ensures words { words.new ≡ set words.old j (word_of y) }
-    ensures values { values.new ≡ set values.old j (value_of y) }
-{
-    match y {
-        Recognised::Known(word, value) => {
-            words[j] = word;
-            values[j] = value;
-        }
-        Recognised::Unknown => {
-            words[j] = table::UNKNOWN;
-            values[j] = 0;
-        }
-    }
-}
-
-// The fields after the tab at `at` as symbols, into the table from `from` on; the address after them.
-fn fill(
-    line: &[u8],
-    at: usize,
-    names: &[u64],
-    from: usize,
-    words: &mut [u32],
-    values: &mut [u32],
-) -> usize
+// The fields of a body, which begins with the tab before the first of them, as symbols, into the table from `from` on; the address after them.
+fn fill(body: &[u8], names: &[u64], from: usize, symbols: &mut [Symbol]) -> usize
     requires few { length names.now ≤ most_functions }
-    requires room { (from + length (rest 9 (drop at line.now)) ≤ length words.old) × (from + length (rest 9 (drop at line.now)) ≤ length values.old) }
-    ensures place { result ≡ from + length (rest 9 (drop at line.now)) }
-    ensures words { words.new ≡ splice words.old from (words_by names.now (rest 9 (drop at line.now))) }
-    ensures values { values.new ≡ splice values.old from (values_by names.now (rest 9 (drop at line.now))) }
+    requires room { from + length (rest tab body.now) ≤ length symbols.old }
+    ensures place { result ≡ from + length (rest tab body.now) }
+    ensures symbols { symbols.new ≡ splice symbols.old from (symbols_by names.now (rest tab body.now)) }
 {
-    let mut i: usize = at;
-    let mut j: usize = from;
-    while i < line.len() {
-        let a = i + 1;
-        let e = fields::piece_end(line, a, fields::TAB);
-        put(symbols::symbol_of(names, &line[a..e]), j, words, values);
-        i = e;
-        j += 1;
+    let mut to = from;
+    for field in (LineFields { rest: body }) {
+        symbols[to] = symbols::symbol_of(names, field);
+        to += 1;
     }
-    j
+    to
 }
 
-// One line's body: filled in and read as one term of a function that has the signature `own`.
-fn read_line(
-    line: &[u8],
-    names: &[u64],
-    heads: &[u32],
-    own: u32,
-    from: usize,
-    words: &mut [u32],
-    values: &mut [u32],
-    ends: &mut [u32],
-) -> Reached
-    requires shape { (length names.now ≤ most_functions) × (wrong_field (pieces 9 line.now) ≡ 0) }
-    requires room { (from + body_fields line.now ≤ length words.old) × (from + body_fields line.now ≤ length values.old) × (from + body_fields line.now ≤ length ends.old) × (from + body_fields line.now < modulus) }
-    ensures read { Lined line.now names.now heads.now own from words.old words.new values.old values.new ends.old ends.new result }
-    ensures within { Reaches from (body_fields line.now) result }
+// Why a text is refused where a body of line n, counted from 0, is wrong that begins at `from`.
+fn refused(fault: Fault, n: usize, from: usize) -> Refusal
+    requires { (from ≤ fault.at) × (5 + (fault.at - from) < modulus) × (n ≤ most_functions) }
+    ensures { result ≡ refused_at fault n from }
 {
-    let t = lines::tabs_of(line);
-    let at = t.result;
-    let to = fill(line, at, names, from, words, values);
-    terms::read_body(&words[0..to], heads, own, from, ends)
-}
-
-// The number that the engine answers for what is wrong.
-fn number(wrong: Wrong) -> u32
-    ensures { result ≡ no (wrong_number wrong) }
-{
-    match wrong {
-        Wrong::UnknownSymbol => meaning::UNKNOWN,
-        Wrong::LackingArgument => meaning::UNKNOWN,
-        Wrong::OtherSort => meaning::SORT,
-        Wrong::EarlyEnd => meaning::SHORT,
-        Wrong::LeftOver => meaning::TERM,
-        Wrong::TooDeep => meaning::NEST,
+    Refusal {
+        number: Number::from(fault.wrong),
+        line: n as u32 + 1,
+        field: (lines::FIRST_SYMBOL + (fault.at - from)) as u32,
     }
 }
 
-// What is wrong at address p of line l counted from 0, whose body begins at `from`.
-fn fault(wrong: Wrong, l: usize, from: usize, p: usize) -> Finished
-    requires { (from ≤ p) × (5 + (p - from) < modulus) × (l ≤ most_functions) }
-    ensures { result ≡ Finished.Refused (no (wrong_number wrong)) (l + 1) (5 + (p - from)) }
-{
-    Finished::Refused(
-        number(wrong),
-        lines::narrow(l + 1),
-        lines::narrow(FIRST_SYMBOL + (p - from)),
-    )
-}
-
-// The bodies of the lines that begin at `at`, the first of them being line l counted from 0, into the table from `from` on.
+// The bodies of a text, line by line, into the table from `from` on, and their addresses: the address after them.
+// The arrays are lent one by one: each contract with a struct of them would also have to say that it still holds the same three, and which stay.
 pub fn read_lines(
     text: &[u8],
-    at: usize,
-    l: usize,
     names: &[u64],
-    heads: &[u32],
+    heads: &[Signature],
     from: usize,
     bodies: &mut [u32],
-    words: &mut [u32],
-    values: &mut [u32],
+    symbols: &mut [Symbol],
     ends: &mut [u32],
-) -> Finished
-    requires shape { (length text.now ≤ most_bytes) × Right (raw_lines text.now) × Right (raw_lines (drop at text.now)) × (drop l (lines text.now) ≡ lines (drop at text.now)) }
-    requires noted { (names.now ≡ map name_number (lines text.now)) × (heads.now ≡ map line_signature (lines text.now)) × (length (lines text.now) ≤ most_functions) × (l ≤ most_functions) }
-    requires room { (length (lines text.now) ≤ length bodies.old) × (from + total (lines (drop at text.now)) ≤ length words.old) × (from + total (lines (drop at text.now)) ≤ length values.old) × (from + total (lines (drop at text.now)) ≤ length ends.old) × (5 + (from + total (lines (drop at text.now))) < modulus) }
-    ensures { Finishes l from bodies.old bodies.new words.old words.new values.old values.new ends.old ends.new (read_bodies (lines text.now) (l + 1) (lines (drop at text.now))) result }
+) -> Result<usize, Refusal>
+    requires shape { (length text.now ≤ most_bytes) × Right (raw_lines text.now) }
+    requires noted { (names.now ≡ map name_number (lines text.now)) × (heads.now ≡ map line_signature (lines text.now)) × (length (lines text.now) ≤ most_functions) }
+    requires room { (length (lines text.now) ≤ length bodies.old) × (from + total (lines text.now) ≤ length symbols.old) × (from + total (lines text.now) ≤ length ends.old) × (5 + (from + total (lines text.now)) < modulus) }
+    ensures { Finishes 0 from bodies.old bodies.new symbols.old symbols.new ends.old ends.new (read_bodies (lines text.now) 1 (lines text.now)) result }
 {
-    if text.len() <= at {
-        return Finished::Done(from);
-    }
-    let e = fields::piece_end(text, at, fields::LINE_END);
-    if text.len() <= e {
-        return Finished::Done(from);
-    }
-    bodies[l] = lines::narrow(from);
-    match read_line(
-        &text[at..e],
-        names,
-        heads,
-        heads[l],
-        from,
-        words,
-        values,
-        ends,
-    ) {
-        Reached::Fault(wrong, p) => fault(wrong, l, from, p),
-        Reached::Next(next) => read_lines(
-            text,
-            e + 1,
-            l + 1,
-            names,
+    let mut at = from;
+    for (n, line) in (Lines { rest: text }).enumerate() {
+        bodies[n] = at as u32;
+        let tabs = lines::tabs_of(line);
+        let end = fill(&line[tabs.result..], names, at, symbols);
+        let body = Body {
+            symbols: &symbols[..end],
             heads,
-            next,
-            bodies,
-            words,
-            values,
-            ends,
-        ),
+            own: heads[n],
+        };
+        at = body.read(at, ends).map_err(|fault| refused(fault, n, at))?;
     }
+    Ok(at)
 }

@@ -11,39 +11,37 @@ use Rattle.meaning.specs.Basics.{written_over}
 use Rattle.meaning.specs.Numbers.{most_arguments, most_functions, most_depth, instruction_words}
 use Rattle.meaning.specs.Terms.{Term, arg, op, cond, call, Terms, nil, cons, Function, Program}
 use Rattle.meaning.specs.Code.{size, sizes, count, entrance, entrances, row_entrance, Instruction, RET, code, strict_code, waiting_code, bodies_code, body_entrances, bodies_size, initial, ret_address, translation, used_words, twelve, code_words}
-use Rattle.table.specs.Table.{term_words, row_words, term_values, row_values, term_ends, row_ends, signature, bodies_words, table_words, bodies_values, table_values, bodies_ends, table_ends, signatures, Begins, Holds}
-use Rattle.table.proofs.Signatures.{signature_strict}
+use Rattle.table.specs.Table.{term_symbols, row_symbols, term_ends, row_ends, bodies_symbols, table_symbols, bodies_ends, table_ends, signatures, Begins, Holds}
+use Rattle.table.specs.declared.Signature.{Signature}
+use Rattle.table.specs.declared.Symbol.{Symbol}
 use Rattle.accepted.specs.Accepted.{depth, depths, Shaped, AllShaped, Called, Sound, Every, Accepted}
 use Rattle.accepted.proofs.Accepted.{reshaped, every_there}
 use Rattle.accepted.proofs.Reading.{clash}
 use Rattle.accepted.proofs.Initial.{initial_deep, initial_shaped}
 use Rattle.accepted.proofs.Length.{length_waiting, translation_length, translation_few}
-use Rattle.entrances.specs.View.{strict_in, bodies_row}
+use Rattle.entrances.specs.View.{strict_at, bodies_row}
 use Rattle.entrances.specs.Entrances.{most_words, written_at, Told, RowAt, Entrances}
 use Rattle.entrances.proofs.View.{waiting_row}
-use Rattle.entrances.proofs.Held.{first_at, others_at, length_words, length_row_words, end_is}
+use Rattle.entrances.proofs.Held.{first_at, others_at, length_symbols, length_row_symbols, end_is}
 use Rattle.entrances.proofs.Laws.{written_more}
 use Rattle.coding.specs.Coding.{EmittedRow, EmittedAll, Translated}
 use Rattle.accepted.proofs.Length.{words_long}
 use Rattle.coding.proofs.Emitting.{words_joined}
 
 -- Signatures.
-signature_at : (P : Program) (rest : List ℕ) (f : ℕ) (F : Function) → get_elem? P f ≡ some F → get_or (signatures P ++ rest) f 0 ≡ signature F.sorts F.strict F.result
+strict_here : (P : Program) (rest : List Signature) (f : ℕ) (F : Function) → get_elem? P f ≡ some F → strict_at (signatures P ++ rest) f ≡ F.strict
 unfolding signatures
-signature_at [] rest f F e = clash (cc)
-signature_at (G ∷ P) rest zero F e =
-    let same : G ≡ F = cc in
-    ap (λ (Z : Function). signature Z.sorts Z.strict Z.result) same
-signature_at (G ∷ P) rest (suc f) F e = signature_at P rest f F e
+strict_here [] rest f F e = clash (cc)
+strict_here (G ∷ P) rest zero F e = let same : G ≡ F = cc in ap (λ (Z : Function). Z.strict) same
+strict_here (G ∷ P) rest (suc f) F e = strict_here P rest f F e
 
-module _ (P : Program) (acc : Accepted P) (H : List ℕ) (held : Begins H (signatures P)) where
+module _ (P : Program) (acc : Accepted P) (H : List Signature) (held : Begins H (signatures P)) where
   told : (f s w : ℕ) → Called P f s w → Told H f s w
   told f s w c =
       let F = c.function in
       let sound : Sound P F = every_there (Sound P) P acc.sound f F c.there in
-      let here : get_or H f 0 ≡ signature F.sorts F.strict F.result = ap (λ (l : List ℕ). get_or l f 0) held.whole ∙ signature_at P held.rest f F c.there in
       record {
-        strict = ap strict_in here ∙ signature_strict F.sorts F.strict F.result sound.few_arguments ∙ sym c.strict;
+        strict = ap (λ (l : List Signature). strict_at l f) held.whole ∙ strict_here P held.rest f F c.there ∙ sym c.strict;
         few = omega (arith, c.all, sound.few_arguments);
       }
 
@@ -59,7 +57,7 @@ module _ (P : Program) (acc : Accepted P) (H : List ℕ) (held : Begins H (signa
   bodies_deep (F ∷ Q) h = omega (arith, h.0.not_deep, bodies_deep Q h.1)
 
 -- The initial term.
-initial_told : (P : Program) (acc : Accepted P) (H : List ℕ) → Begins H (signatures P) → Shaped (Told H) most_arguments (initial P)
+initial_told : (P : Program) (acc : Accepted P) (H : List Signature) → Begins H (signatures P) → Shaped (Told H) most_arguments (initial P)
 unfolding Every
 initial_told [] acc H held = absurd (omega (arith, acc.some_function))
 initial_told (F ∷ P) acc H held =
@@ -67,15 +65,10 @@ initial_told (F ∷ P) acc H held =
     reshaped (Called (F ∷ P)) (Told H) (told (F ∷ P) acc H held) (length F.sorts) most_arguments s.few_arguments (initial (F ∷ P)) (initial_shaped F P s.few_strict)
 
 -- The bodies as a row.
-row_of_words : (P : Program) → bodies_words P ≡ row_words (bodies_row P)
-unfolding bodies_words bodies_row term_words
-row_of_words [] = refl
-row_of_words (F ∷ P) = ap (λ (l : List ℕ). term_words F.body ++ l) (row_of_words P)
-
-row_of_values : (P : Program) → bodies_values P ≡ row_values (bodies_row P)
-unfolding bodies_values bodies_row term_values
-row_of_values [] = refl
-row_of_values (F ∷ P) = ap (λ (l : List ℕ). term_values F.body ++ l) (row_of_values P)
+row_of_symbols : (P : Program) → bodies_symbols P ≡ row_symbols (bodies_row P)
+unfolding bodies_symbols bodies_row term_symbols
+row_of_symbols [] = refl
+row_of_symbols (F ∷ P) = ap (λ (l : List Symbol). term_symbols F.body ++ l) (row_of_symbols P)
 
 row_of_ends : (P : Program) (a : ℕ) → bodies_ends P a ≡ row_ends (bodies_row P) a
 unfolding bodies_ends bodies_row term_ends
@@ -102,21 +95,20 @@ unfolding bodies_code bodies_row code
 row_of_code B ret [] a = refl
 row_of_code B ret (F ∷ P) a = ap (λ (l : List Instruction). code B ret F.body a ret ++ l) (row_of_code B ret P (a + size F.body))
 
-table_long : (P : Program) → length (table_words P) ≡ ret_address P
-unfolding table_words ret_address
+table_long : (P : Program) → length (table_symbols P) ≡ ret_address P
+unfolding table_symbols ret_address
 table_long P =
-    length-append (term_words (initial P)) (bodies_words P)
-    ∙ omega (arith, length_words (initial P), ap length (row_of_words P), length_row_words (bodies_row P), row_of_sizes P)
+    length-append (term_symbols (initial P)) (bodies_symbols P)
+    ∙ omega (arith, length_symbols (initial P), ap length (row_of_symbols P), length_row_symbols (bodies_row P), row_of_sizes P)
 
 -- The table holds them.
-module _ (P : Program) (acc : Accepted P) (H W K E : List ℕ) (words : W ≡ table_words P) (values : Begins K (table_values P)) (ends : Begins E (table_ends P)) (heads : Begins H (signatures P)) where
+module _ (P : Program) (acc : Accepted P) (H : List Signature) (W : List Symbol) (E : List ℕ) (symbols : W ≡ table_symbols P) (ends : Begins E (table_ends P)) (heads : Begins H (signatures P)) where
   -- one row: the initial term, then the bodies
-  pub table_at : RowAt H W K E 0 most_depth (cons (initial P) (bodies_row P))
-  unfolding table_words table_values table_ends term_words term_values term_ends Shaped depth
+  pub table_at : RowAt H W E 0 most_depth (cons (initial P) (bodies_row P))
+  unfolding table_symbols table_ends term_symbols term_ends Shaped depth
   table_at =
       record {
-        words = record { rest = []; whole = words ∙ ap (λ (l : List ℕ). term_words (initial P) ++ l) (row_of_words P) ∙ sym (append-nil (row_words (cons (initial P) (bodies_row P)))) };
-        values = subst (λ (l : List ℕ). Begins K (term_values (initial P) ++ l)) (row_of_values P) values;
+        symbols = record { rest = []; whole = symbols ∙ ap (λ (l : List Symbol). term_symbols (initial P) ++ l) (row_of_symbols P) ∙ sym (append-nil (row_symbols (cons (initial P) (bodies_row P)))) };
         ends = subst (λ (l : List ℕ). Begins E (term_ends (initial P) 0 ++ l)) (row_of_ends P (size (initial P)) ∙ ap (row_ends (bodies_row P)) from_0) ends;
         shaped = (initial_told P acc H heads, bodies_shaped P acc H heads P acc.sound);
         deep = omega (arith, initial_deep P, bodies_deep P acc H heads P acc.sound);
@@ -125,15 +117,15 @@ module _ (P : Program) (acc : Accepted P) (H W K E : List ℕ) (words : W ≡ ta
       from_0 : size (initial P) ≡ 0 + size (initial P)
       from_0 = omega arith
 
-  pub bodies_at : RowAt H W K E (size (initial P)) most_depth (bodies_row P)
-  bodies_at = let past : 0 + size (initial P) ≡ size (initial P) = omega arith in subst (λ (n : ℕ). RowAt H W K E n most_depth (bodies_row P)) past (others_at table_at)
+  pub bodies_at : RowAt H W E (size (initial P)) most_depth (bodies_row P)
+  bodies_at = let past : 0 + size (initial P) ≡ size (initial P) = omega arith in subst (λ (n : ℕ). RowAt H W E n most_depth (bodies_row P)) past (others_at table_at)
 
   pub first_body : get_or E 0 0 ≡ size (initial P)
   first_body = end_is (first_at table_at) ∙ omega arith
 
   pub last_body : length W ≡ size (initial P) + sizes (bodies_row P)
   unfolding ret_address
-  last_body = ap length words ∙ table_long P ∙ ap (λ (n : ℕ). size (initial P) + n) (row_of_sizes P)
+  last_body = ap length symbols ∙ table_long P ∙ ap (λ (n : ℕ). size (initial P) + n) (row_of_sizes P)
 
 -- Code depends on the entrances of bodies alone.
 module _ (B C : List ℕ) (ret : ℕ) (same : (f : ℕ) → get_or B f 0 ≡ get_or C f 0) where
@@ -172,29 +164,29 @@ twice c c₁ c₂ xs ys n p e₁ e₂ =
     e₂ ∙ rw e₁ (ap (λ (k : ℕ). written_at k ys (written_at 0 xs c)) from_n ∙ written_more c 0 n xs ys p (omega arith))
 
 -- The initial term and the bodies, then RET.
-pub all_emitted : (H W K E c B c₁ c₂ : List ℕ) (first : ℕ) → first ≡ get_or E 0 0 → Entrances H W E first (length W) most_depth 0 (replicate most_functions 0) B →
-    EmittedRow H B W K E 0 (length W) 0 0 (length W) most_depth c c₁ →
-    c₂ ≡ written_at (instruction_words * length W) (5 ∷ 0 ∷ 0 ∷ 0 ∷ 0 ∷ 0 ∷ 0 ∷ 0 ∷ 0 ∷ 0 ∷ 0 ∷ 0 ∷ []) c₁ → EmittedAll H W K E c c₂
+pub all_emitted : (H : List Signature) (W : List Symbol) (E c B c₁ c₂ : List ℕ) (first : ℕ) → first ≡ get_or E 0 0 → Entrances H W E first (length W) most_depth 0 (replicate most_functions 0) B →
+    EmittedRow H B W E 0 (length W) 0 0 (length W) most_depth c c₁ →
+    c₂ ≡ written_at (instruction_words * length W) (5 ∷ 0 ∷ 0 ∷ 0 ∷ 0 ∷ 0 ∷ 0 ∷ 0 ∷ 0 ∷ 0 ∷ 0 ∷ 0 ∷ []) c₁ → EmittedAll H W E c c₂
 unfolding EmittedAll Entrances EmittedRow translation code_words used_words twelve code size
-all_emitted H W K E c B c₁ c₂ first z b e₁ e₂ P acc words values ends heads =
+all_emitted H W E c B c₁ c₂ first z b e₁ e₂ P acc symbols ends heads =
     let n = size (initial P) in
     let ret = ret_address P in
     let entries = body_entrances P n in
     let row = cons (initial P) (bodies_row P) in
-    let start : first ≡ n = z ∙ first_body P acc H W K E words values ends heads in
-    let last : length W ≡ n + sizes (bodies_row P) = last_body P acc H W K E words values ends heads in
+    let start : first ≡ n = z ∙ first_body P acc H W E symbols ends heads in
+    let last : length W ≡ n + sizes (bodies_row P) = last_body P acc H W E symbols ends heads in
     let few : 0 + count (bodies_row P) ≤ length (replicate {A = ℕ} most_functions 0) = omega (arith, acc.few_functions, row_of_count P) in
     let held : B ≡ written_at 0 (entrances (bodies_row P) n) (replicate most_functions 0)
-    = rw start at b K (bodies_row P) (bodies_at P acc H W K E words values ends heads) last few in
+    = rw start at b (bodies_row P) (bodies_at P acc H W E symbols ends heads) last few in
     let same : (f : ℕ) → get_or B f 0 ≡ get_or entries f 0
     = λ f. rw (held, row_of_entrances P n) (zeros_after (entrances (bodies_row P) n) (length (entrances (bodies_row P) n)) most_functions f) in
-    let addr : length W ≡ ret = ap length words ∙ table_long P in
+    let addr : length W ≡ ret = ap length symbols ∙ table_long P in
     let A = code entries ret (initial P) 0 ret in
     let Z = bodies_code entries ret P n in
     let past : 0 + n ≡ n = omega arith in
     let is : waiting_code entries ret row 0 ≡ A ++ Z = ap (λ (l : List Instruction). A ++ l) (ap (waiting_code entries ret (bodies_row P)) past ∙ sym (row_of_code entries ret P n)) in
     let one : c₁ ≡ written_at 0 (code_words (A ++ Z)) c
-    = e₁ row (table_at P acc H W K E words values ends heads) (last ∙ omega arith) (omega arith)
+    = e₁ row (table_at P acc H W E symbols ends heads) (last ∙ omega arith) (omega arith)
     ∙ rw (addr, waiting_row B ret row 0 0, same_waiting B entries ret same row 0, is) in
     let long : length (code_words (A ++ Z)) ≡ instruction_words * length W
     = words_long (A ++ Z) ∙ ap (λ (k : ℕ). instruction_words * k) (ap length (sym is) ∙ length_waiting entries ret row 0 ∙ sym last) in
@@ -202,30 +194,30 @@ all_emitted H W K E c B c₁ c₂ first z b e₁ e₂ P acc words values ends he
     ∙ ap (λ (l : List ℕ). written_over l c) (sym (words_joined (A ++ Z) (RET ∷ [])) ∙ ap code_words (append_assoc A Z (RET ∷ [])))
 
 -- The tests of `emit`.
-module _ (words values ends heads : List ℕ) (instructions : ℕ) (c : List ℕ) where
-  pub none_translated : instructions ≡ 0 → Translated words values ends heads instructions c c
+module _ (symbols : List Symbol) (ends : List ℕ) (heads : List Signature) (instructions : ℕ) (c : List ℕ) where
+  pub none_translated : instructions ≡ 0 → Translated symbols ends heads instructions c c
   unfolding Translated
   none_translated z P bodies acc h n room = absurd (omega (arith, translation_length P))
 
-  few_held : (P : Program) (bodies : List ℕ) → Holds P words values ends heads bodies → ret_address P ≤ length words
-  few_held P bodies h = omega (arith, ap length h.words_held.whole, length-append (table_words P) h.words_held.rest, table_long P)
+  few_held : (P : Program) (bodies : List ℕ) → Holds P symbols ends heads bodies → ret_address P ≤ length symbols
+  few_held P bodies h = omega (arith, ap length h.symbols_held.whole, length-append (table_symbols P) h.symbols_held.rest, table_long P)
 
-  pub short_translated : length words < instructions - 1 → Translated words values ends heads instructions c c
+  pub short_translated : length symbols < instructions - 1 → Translated symbols ends heads instructions c c
   unfolding Translated
   short_translated z P bodies acc h n room = absurd (omega (arith, translation_length P, few_held P bodies h))
 
-  pub many_translated : most_words < instructions - 1 → Translated words values ends heads instructions c c
+  pub many_translated : most_words < instructions - 1 → Translated symbols ends heads instructions c c
   unfolding Translated
   many_translated z P bodies acc h n room = absurd (omega (arith, translation_few P acc))
 
-  pub room_translated : length c / instruction_words < instructions → Translated words values ends heads instructions c c
+  pub room_translated : length c / instruction_words < instructions → Translated symbols ends heads instructions c c
   unfolding Translated
   room_translated z P bodies acc h n room = absurd (omega (arith, room))
 
-  pub all_translated : (c' : List ℕ) → EmittedAll heads (take (instructions - 1) words) values ends c c' → Translated words values ends heads instructions c c'
+  pub all_translated : (ws : List Symbol) (c' : List ℕ) → ws ≡ take (instructions - 1) symbols → EmittedAll heads ws ends c c' → Translated symbols ends heads instructions c c'
   unfolding Translated EmittedAll
-  all_translated c' e P bodies acc h n room =
-      let long : length (table_words P) ≡ instructions - 1 = table_long P ∙ omega (arith, translation_length P) in
-      let same : take (instructions - 1) words ≡ table_words P
-      = ap (take (instructions - 1)) h.words_held.whole ∙ take_at (table_words P) h.words_held.rest (instructions - 1) long in
-      e P acc same h.values_held h.ends_held h.heads_held
+  all_translated ws c' q e P bodies acc h n room =
+      let long : length (table_symbols P) ≡ instructions - 1 = table_long P ∙ omega (arith, translation_length P) in
+      let same : ws ≡ table_symbols P
+      = q ∙ ap (take (instructions - 1)) h.symbols_held.whole ∙ take_at (table_symbols P) h.symbols_held.rest (instructions - 1) long in
+      e P acc same h.ends_held h.heads_held

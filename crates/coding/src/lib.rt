@@ -1,311 +1,215 @@
 // Translate's core: from the table of symbols to code words. Assumes nothing.
 #![tactic(auto)]
 
-ghost use Rattle.std.specs.Prelude.{◌≡◌, ◌+◌, ◌-◌, ◌*◌, ◌≤◌, ◌<◌, ltb, length, if◌then◌else◌};
+ghost use Rattle.std.specs.Prelude.{◌≡◌, ◌+◌, ◌*◌, ◌≤◌, ◌<◌, length, get_or};
 ghost use Rattle.meaning.specs.Numbers.{instruction_words};
-ghost use Rattle.table.specs.Table.{first_function};
-ghost use Rattle.entrances.specs.Entrances.{most_words, written_at};
-ghost use Rattle.coding.specs.Coding.{operation_of, Plain, Selects, Calls, Stored, Emitted, EmittedArgs, EmittedRow, EmittedAll, Translated};
+ghost use Rattle.table.specs.declared.Symbol.TheVariants.{Unknown};
+ghost use Rattle.entrances.specs.View.{leads_of, strict_at};
+ghost use Rattle.entrances.specs.Entrances.{written_at};
+ghost use Rattle.coding.specs.Coding.{executed, others_of, Selects, Calls, Stored, Emitted, EmittedRow, EmittedAll, Translated};
 
-use entrances::{MOST_WORDS, entry, follower, leads, pass, put_entrances, word_at};
+use entrances::{MOST_WORDS, Row, Symbols, leads, pass};
+use layout::{CALL, ENTRANCES, EVAL, EXEC, RET, SELECT};
 use meaning::{INSTRUCTION_WORDS, MOST_DEPTH, MOST_FUNCTIONS};
-use table::{COND, FIRST_ARGUMENT, FIRST_CONSTANT, FIRST_FUNCTION, FIRST_OPERATION};
+use table::{Symbol, View, word_at};
+use word::NEGATION;
 
-// The kinds of instructions.
-pub const EVAL: u32 = 1;
-
-pub const EXEC: u32 = 2;
-
-pub const SELECT: u32 = 3;
-
-pub const CALL: u32 = 4;
-
-pub const RET: u32 = 5;
-
-// EVAL's argument positions count from here; EXEC's operations: "0 constant, then 1 to 10 for `+ - * / % = < & | !`".
-const FIRST_POSITION: u32 = 1;
-
+// EXEC's operations: "0 constant, then 1 to 10 for `+ - * / % = < & | !`". A number, as the code word that a caller in C holds.
 const CONSTANT: u32 = 0;
 
-const ADD: u32 = 1;
-
-// "CALL (4): entrance of the body, strict count, entrances of the waiting arguments": the first of those.
-const WAITING: usize = 4;
-
-// The number of an operation: "0 constant, then 1 to 10".
-fn operation(word: u32) -> u32
-    ensures { result ≡ operation_of word }
-{
-    if word < FIRST_OPERATION {
-        CONSTANT
-    } else {
-        word - FIRST_OPERATION + ADD
-    }
-}
-
-// EVAL of an argument, or EXEC of a constant or an operation; only a constant has a value. There is no unknown symbol in an accepted text.
-fn plain(word: u32, value: u32, next: u32) -> [u32; INSTRUCTION_WORDS]
-    ensures { Plain word value next result }
-{
-    if word < FIRST_ARGUMENT {
-        return [0; INSTRUCTION_WORDS];
-    }
-    if word < FIRST_CONSTANT {
-        let position = word - FIRST_ARGUMENT + FIRST_POSITION;
-        return [EVAL, next, position, 0, 0, 0, 0, 0, 0, 0, 0, 0];
-    }
-    let number = operation(word);
-    [EXEC, next, number, value, 0, 0, 0, 0, 0, 0, 0, 0]
-}
-
-// "SELECT (3): next is 0; entrance of the yes branch, of the no branch." The condition stands at `at`.
-fn select(
-    words: &[u32],
-    ends: &[u32],
-    heads: &[u32],
-    at: u32,
-    depth: usize,
-) -> [u32; INSTRUCTION_WORDS]
-    requires { length words.now ≤ most_words }
-    ensures { Selects heads.now words.now ends.now at depth result }
-{
-    let yes = word_at(ends, at);
-    let no = word_at(ends, yes);
-    let on_yes = entry(words, heads, yes, depth);
-    let on_no = entry(words, heads, no, depth);
-    [SELECT, 0, on_yes, on_no, 0, 0, 0, 0, 0, 0, 0, 0]
-}
-
-// CALL of a body entered at `body`; the arguments, `strict` of which are strict, stand from `at` to `end`.
-fn call(
-    words: &[u32],
-    ends: &[u32],
-    heads: &[u32],
-    body: u32,
-    strict: u32,
-    at: u32,
-    end: u32,
-    next: u32,
-    depth: usize,
-) -> [u32; INSTRUCTION_WORDS]
-    requires { length words.now ≤ most_words }
-    ensures { Calls heads.now words.now ends.now body strict at end next depth result }
-{
-    let first = pass(ends, at, strict);
-    let mut ins = [CALL, next, body, strict, 0, 0, 0, 0, 0, 0, 0, 0];
-    put_entrances(words, ends, heads, first, end, depth, WAITING, &mut ins);
-    ins
-}
-
-// The words of `ins`, into a part that is as long.
-fn fill(part: &mut [u32], ins: [u32; INSTRUCTION_WORDS])
-    requires { length part.old ≡ instruction_words }
-    ensures { part.new ≡ ins }
-{
-    let mut i: usize = 0;
-    while i < INSTRUCTION_WORDS {
-        part[i] = ins[i];
-        i += 1;
-    }
-}
+type Instruction = [u32; INSTRUCTION_WORDS];
 
 // The instruction of the symbol at `at`, stored at that address.
-fn store(code: &mut [u32], at: usize, ins: [u32; INSTRUCTION_WORDS])
+fn store(code: &mut [u32], at: usize, ins: Instruction)
     requires { instruction_words * at + instruction_words ≤ length code.old }
     ensures { code.new ≡ written_at (instruction_words * at) ins code.old }
 {
     let start = INSTRUCTION_WORDS * at;
-    fill(&mut code[start..start + INSTRUCTION_WORDS], ins);
+    code[start..start + INSTRUCTION_WORDS].copy_from_slice(&ins);
 }
 
-// What follows the arguments that are not worked out before a symbol: what follows a `cond`, RET after a waiting argument.
-fn after(word: u32, next: u32, ret: u32) -> u32
-    ensures { result ≡ if ltb word first_function then next else ret }
+// EXEC of a constant or of an operation; only a constant has a value.
+#[tactic(auto, unfolding(meaning::specs::Code::twelve))]
+fn execute(operation: u32, value: u32, next: u32) -> Instruction
+    ensures { result ≡ executed operation value next }
 {
-    if word < FIRST_FUNCTION { next } else { ret }
+    [EXEC, next, operation, value, 0, 0, 0, 0, 0, 0, 0, 0]
 }
 
-fn less(k: u32) -> u32
-    ensures { result ≡ k - 1 }
-{
-    if k == 0 { 0 } else { k - 1 }
+// The symbols of a program, to be coded, and the entrances of its bodies.
+#[derive(Clone, Copy)]
+struct Emitter<'a> {
+    symbols: Symbols<'a>,
+    bodies: &'a [u32],
 }
 
-// The one instruction of the symbol at `at`, built and stored; `next` is what follows its term.
-fn put_instruction(
-    words: &[u32],
-    values: &[u32],
-    ends: &[u32],
-    heads: &[u32],
-    bodies: &[u32],
-    at: u32,
-    next: u32,
-    depth: usize,
-    code: &mut [u32],
-)
-    requires { (length words.now ≤ most_words) × (instruction_words * length words.now ≤ length code.old) × (at < length words.now) }
-    ensures { Stored heads.now bodies.now words.now values.now ends.now at next depth code.old code.new }
-{
-    let i = at as usize;
-    let word = words[i];
-    if word < COND {
-        let value = word_at(values, at);
-        let ins = plain(word, value, next);
-        store(code, i, ins);
-        return;
+impl Emitter<'_> {
+    // "SELECT (3): next is 0; entrance of the yes branch, of the no branch." The condition stands at `at`.
+    fn select(&self, at: u32, depth: usize) -> Instruction
+        ensures { let t = self.now.symbols.table in Selects t.heads.now t.symbols.now t.ends.now at depth result }
+    {
+        let yes = self.symbols.table.end(at);
+        let no = self.symbols.table.end(yes);
+        let on_yes = self.symbols.entrance(yes, depth);
+        let on_no = self.symbols.entrance(no, depth);
+        [SELECT, 0, on_yes, on_no, 0, 0, 0, 0, 0, 0, 0, 0]
     }
-    if word < FIRST_FUNCTION {
-        let ins = select(words, ends, heads, at + 1, depth);
-        store(code, i, ins);
-        return;
-    }
-    let body = word_at(bodies, word - FIRST_FUNCTION);
-    let strict = leads(heads, word);
-    let end = word_at(ends, at);
-    let ins = call(words, ends, heads, body, strict, at + 1, end, next, depth);
-    store(code, i, ins);
-}
 
-// The code of the term at `at`, `next` being what follows it; `bodies` are the entrances of the bodies. RET stands past all symbols.
-#[cycle(emit_args_emit_row_emit_term)]
-fn emit_term(
-    words: &[u32],
-    values: &[u32],
-    ends: &[u32],
-    heads: &[u32],
-    bodies: &[u32],
-    at: u32,
-    next: u32,
-    depth: usize,
-    code: &mut [u32],
-)
-    requires { (length words.now ≤ most_words) × (instruction_words * length words.now ≤ length code.old) }
-    ensures { Emitted heads.now bodies.now words.now values.now ends.now at next depth code.old code.new }
-{
-    if depth == 0 {
-        return;
+    // "CALL (4): entrance of the body, strict count, entrances of the waiting arguments": of the function f, called at `at`.
+    fn call(&self, f: u32, at: u32, next: u32, depth: usize) -> Instruction
+        requires { at < length self.now.symbols.table.symbols.now }
+        ensures { let t = self.now.symbols.table in
+            Calls t.heads.now t.symbols.now t.ends.now (get_or self.now.bodies.now f 0) (strict_at t.heads.now f) (at + 1) (get_or t.ends.now at 0) next depth result }
+    {
+        let body = word_at(self.bodies, f);
+        let strict = leads(&self.symbols.table, Symbol::Function(f));
+        let first = pass(&self.symbols.table, at + 1, strict);
+        let mut ins = [CALL, next, body, strict, 0, 0, 0, 0, 0, 0, 0, 0];
+        self.symbols.put_entrances(
+            first,
+            self.symbols.table.end(at),
+            depth,
+            &mut ins[ENTRANCES..],
+        );
+        ins
     }
-    let i = at as usize;
-    if words.len() <= i {
-        return;
-    }
-    put_instruction(words, values, ends, heads, bodies, at, next, depth, code);
-    emit_args(words, values, ends, heads, bodies, at, next, depth, code);
-}
 
-// The code of the arguments of the symbol at `home`, `next` being what follows its term.
-#[cycle(emit_args_emit_row_emit_term)]
-fn emit_args(
-    words: &[u32],
-    values: &[u32],
-    ends: &[u32],
-    heads: &[u32],
-    bodies: &[u32],
-    home: u32,
-    next: u32,
-    depth: usize,
-    code: &mut [u32],
-)
-    requires { (length words.now ≤ most_words) × (instruction_words * length words.now ≤ length code.old) × (home < length words.now) × (1 ≤ depth) }
-    ensures { EmittedArgs heads.now bodies.now words.now values.now ends.now home next depth code.old code.new }
-{
-    let at = home + 1;
-    let end = word_at(ends, home);
-    if end <= at {
-        return;
+    // The one instruction of the symbol at `at`, stored at that address; `next` is what follows its term. Each kind is stored for itself: an array that
+    // any of them may be, stored once, makes translating up to 6 % slower.
+    fn put_instruction(&self, at: u32, next: u32, depth: usize, code: &mut [u32])
+        requires { (instruction_words * length self.now.symbols.table.symbols.now ≤ length code.old) × (at < length self.now.symbols.table.symbols.now) }
+        ensures { let t = self.now.symbols.table in Stored t.heads.now self.now.bodies.now t.symbols.now t.ends.now at next depth code.old code.new }
+    {
+        let place = at as usize;
+        match self.symbols.table.symbol(at) {
+            // There is none in an accepted text.
+            Symbol::Unknown => store(code, place, [0; INSTRUCTION_WORDS]),
+            // EVAL's argument positions count from 1.
+            Symbol::Argument(i) => store(
+                code,
+                place,
+                [EVAL, next, i.wrapping_add(1), 0, 0, 0, 0, 0, 0, 0, 0, 0],
+            ),
+            Symbol::Constant(_, value) => store(code, place, execute(CONSTANT, value, next)),
+            Symbol::Operation(operation) => store(
+                code,
+                place,
+                execute(u32::from(operation), 0, next),
+            ),
+            Symbol::Not => store(code, place, execute(NEGATION, 0, next)),
+            Symbol::Cond => store(code, place, self.select(at + 1, depth)),
+            Symbol::Function(f) => store(code, place, self.call(f, at, next, depth)),
+        }
     }
-    let word = word_at(words, home);
-    let ret = words.len() as u32;
-    let lead = leads(heads, word);
-    let others = after(word, next, ret);
-    emit_row(
-        words,
-        values,
-        ends,
-        heads,
-        bodies,
-        at,
-        end,
-        lead,
-        home,
-        others,
-        depth - 1,
-        code,
-    );
-}
 
-// The code of a row of terms from `at` to `end`, of which `lead` are worked out before the symbol at `home` and the others go on at `others`.
-#[cycle(emit_args_emit_row_emit_term)]
-fn emit_row(
-    words: &[u32],
-    values: &[u32],
-    ends: &[u32],
-    heads: &[u32],
-    bodies: &[u32],
-    at: u32,
-    end: u32,
-    lead: u32,
-    home: u32,
-    others: u32,
-    depth: usize,
-    code: &mut [u32],
-)
-    requires { (length words.now ≤ most_words) × (instruction_words * length words.now ≤ length code.old) }
-    ensures { EmittedRow heads.now bodies.now words.now values.now ends.now at end lead home others depth code.old code.new }
-{
-    let mut a = at;
-    let mut left = lead;
-    while a < end {
-        let past = word_at(ends, a);
-        if past <= a {
+    // The row of the arguments of the symbol at `home`, `next` being what follows its term: RET follows a waiting argument. RET stands past all symbols.
+    #[tactic(auto, unfolding(crate::specs::Coding::others_of))]
+    fn arguments(&self, home: u32, next: u32) -> Row
+        requires { home < length self.now.symbols.table.symbols.now }
+        ensures { let t = self.now.symbols.table in result ≡ record {
+          at = home + 1;
+          end = get_or t.ends.now home 0;
+          lead = leads_of t.heads.now (get_or t.symbols.now home Unknown);
+          home = home;
+          others = others_of (get_or t.symbols.now home Unknown) next (length t.symbols.now);
+        } }
+    {
+        let table = self.symbols.table;
+        let symbol = table.symbol(home);
+        let others = match symbol {
+            Symbol::Function(_) => table.symbols.len() as u32,
+            _ => next,
+        };
+        Row {
+            at: home + 1,
+            end: table.end(home),
+            lead: leads(&table, symbol),
+            home,
+            others,
+        }
+    }
+
+    // The code of the term at `at`, `next` being what follows it.
+    #[cycle(emitting)]
+    fn term(&self, at: u32, next: u32, depth: usize, code: &mut [u32])
+        requires { instruction_words * length self.now.symbols.table.symbols.now ≤ length code.old }
+        ensures { let t = self.now.symbols.table in Emitted t.heads.now self.now.bodies.now t.symbols.now t.ends.now at next depth code.old code.new }
+    {
+        if depth == 0 || self.symbols.table.symbols.len() <= at as usize {
             return;
         }
-        let next = follower(words, heads, left, past, home, others, depth);
-        emit_term(words, values, ends, heads, bodies, a, next, depth, code);
-        a = past;
-        left = less(left);
+        self.put_instruction(at, next, depth, code);
+        // Most symbols have no arguments, and a call costs more than the test: without it translating is up to 9 % slower.
+        if self.symbols.table.end(at) <= at + 1 {
+            return;
+        }
+        self.row(self.arguments(at, next), depth - 1, code);
+    }
+
+    // The code of a row of terms. The loop goes from term to term, as far as each reaches, which no `for` says.
+    #[cycle(emitting)]
+    fn row(&self, mut row: Row, depth: usize, code: &mut [u32])
+        requires { instruction_words * length self.now.symbols.table.symbols.now ≤ length code.old }
+        ensures { let t = self.now.symbols.table in
+            EmittedRow t.heads.now self.now.bodies.now t.symbols.now t.ends.now row.at row.end row.lead row.home row.others depth code.old code.new }
+    {
+        while row.at < row.end {
+            let at = row.at;
+            row.at = self.symbols.table.end(at);
+            if row.at <= at {
+                return;
+            }
+            self.term(at, self.symbols.follower(row, depth), depth, code);
+            row.lead = row.lead.saturating_sub(1);
+        }
     }
 }
 
-// "the initial term first, then the bodies by line": one row of terms, each followed by RET, which stands past them. `words` are the symbols of a
+// "the initial term first, then the bodies by line": one row of terms, each followed by RET, which stands past them. The symbols are those of a
 // program and no more; the bodies begin where the initial term ends.
-fn emit_all(words: &[u32], values: &[u32], ends: &[u32], heads: &[u32], code: &mut [u32])
-    requires { (length words.now ≤ most_words) × (instruction_words * length words.now + instruction_words ≤ length code.old) }
-    ensures { EmittedAll heads.now words.now values.now ends.now code.old code.new }
+fn emit_all(symbols: Symbols, code: &mut [u32])
+    requires { instruction_words * length symbols.table.symbols.now + instruction_words ≤ length code.old }
+    ensures { let t = symbols.entry.table in EmittedAll t.heads.now t.symbols.now t.ends.now code.old code.new }
 {
-    let ret = words.len() as u32;
-    let first = word_at(ends, 0);
-    let mut bodies = [0u32; MOST_FUNCTIONS];
-    put_entrances(words, ends, heads, first, ret, MOST_DEPTH, 0, &mut bodies);
-    emit_row(
-        words, values, ends, heads, &bodies, 0, ret, 0, 0, ret, MOST_DEPTH, code,
+    let ret = symbols.table.symbols.len() as u32;
+    let mut bodies = [0; MOST_FUNCTIONS];
+    symbols.put_entrances(symbols.table.end(0), ret, MOST_DEPTH, &mut bodies);
+    let all = Row {
+        at: 0,
+        end: ret,
+        lead: 0,
+        home: 0,
+        others: ret,
+    };
+    Emitter {
+        symbols,
+        bodies: &bodies,
+    }
+    .row(all, MOST_DEPTH, code);
+    store(
+        code,
+        symbols.table.symbols.len(),
+        [RET, 0, 0, 0, 0, 0, 0, 0, 0, 0, 0, 0],
     );
-    store(code, words.len(), [RET, 0, 0, 0, 0, 0, 0, 0, 0, 0, 0, 0]);
 }
 
-// The code of the program whose table of symbols the slices hold, `instructions` of them.
-pub fn emit(
-    words: &[u32],
-    values: &[u32],
-    ends: &[u32],
-    heads: &[u32],
-    instructions: usize,
-    code: &mut [u32],
-)
-    ensures { Translated words.now values.now ends.now heads.now instructions code.old code.new }
+// The code of the program whose table is given, `instructions` of them.
+pub fn emit(table: View, instructions: usize, code: &mut [u32])
+    ensures { let t = table.entry in Translated t.symbols.now t.ends.now t.heads.now instructions code.old code.new }
 {
-    if instructions == 0 {
+    let Some(ret) = instructions.checked_sub(1) else {
+        return;
+    };
+    let Some(symbols) = table.symbols.get(..ret) else {
+        return;
+    };
+    if MOST_WORDS < ret || code.len() / INSTRUCTION_WORDS < instructions {
         return;
     }
-    let ret = instructions - 1;
-    if words.len() < ret {
-        return;
-    }
-    if MOST_WORDS < ret {
-        return;
-    }
-    if code.len() / INSTRUCTION_WORDS < instructions {
-        return;
-    }
-    emit_all(&words[..ret], values, ends, heads, code);
+    emit_all(
+        Symbols {
+            table: View { symbols, ..table },
+        },
+        code,
+    );
 }

@@ -1,17 +1,20 @@
 -- A term is its symbol and its row: the pages of `meaning` and of the table, by the view of specs/View.antt. Assumes nothing.
 use mathlib.Core.Path.{◌≡◌, refl, ap, sym, ◌∙◌}
 use mathlib.Core.List.{List, [], ◌∷◌, ◌++◌, append_assoc, append-nil}
-use Prim.Native.Nat.{ℕ, suc, ◌+◌, ◌-◌, ◌≤◌, ◌<◌, max}
+use Prim.Native.Nat.{ℕ, suc, ◌+◌, ◌≤◌, max}
 use native.Mathlib.Omega.{arith}
-use lib.ListN.{length, get_or}
-use borrow.Author.Tests.{lt-ltb, le-ltb}
-use Rattle.meaning.specs.Arithmetic.{Op, constant, number, yes_no, add, sub, mul, div, rem, eq, lt, and, or, neg, domain}
+use lib.ListN.{length}
+use Rattle.meaning.specs.Arithmetic.{Op, constant, add, sub, mul, div, rem, eq, lt, and, or, neg, domain}
 use Rattle.meaning.specs.Numbers.{most_arguments}
 use Rattle.meaning.specs.Terms.{Term, arg, op, cond, call, Terms, nil, cons}
 use Rattle.meaning.specs.Code.{size, sizes, count, entrance, row_entrance, code, strict_code, waiting_code, Instruction}
-use Rattle.table.specs.Table.{op_word, first_function, term_words, row_words, term_values, row_values, term_ends, row_ends}
+use Rattle.table.specs.Symbols.{op_symbol}
+use Rattle.table.specs.Table.{term_symbols, row_symbols, term_ends, row_ends}
+use Rattle.table.specs.declared.Signature.{Signature}
+use Rattle.table.specs.declared.Symbol.{Symbol}
+use Rattle.table.specs.declared.Symbol.TheVariants.{Function}
 use Rattle.accepted.specs.Accepted.{depth, depths, Shaped, AllShaped}
-use Rattle.entrances.specs.View.{first_operation, not_word, joined, root, root_value, row, lead, strict_in, leads_of, after, follower_of, instruction_of, row_code}
+use Rattle.entrances.specs.View.{joined, root, row, lead, leads_of, after, follower_of, instruction_of, row_code}
 use Rattle.entrances.specs.Entrances.{Told}
 
 -- Rows joined.
@@ -30,15 +33,10 @@ unfolding joined count
 joined_count nil ws = omega arith
 joined_count (cons s ss) ws = omega (arith, joined_count ss ws)
 
-joined_words : (ss ws : Terms) → row_words (joined ss ws) ≡ row_words ss ++ row_words ws
-unfolding joined term_words
-joined_words nil ws = refl
-joined_words (cons s ss) ws = rw (joined_words ss ws) (sym (append_assoc (term_words s) (row_words ss) (row_words ws)))
-
-joined_values : (ss ws : Terms) → row_values (joined ss ws) ≡ row_values ss ++ row_values ws
-unfolding joined term_values
-joined_values nil ws = refl
-joined_values (cons s ss) ws = rw (joined_values ss ws) (sym (append_assoc (term_values s) (row_values ss) (row_values ws)))
+joined_symbols : (ss ws : Terms) → row_symbols (joined ss ws) ≡ row_symbols ss ++ row_symbols ws
+unfolding joined term_symbols
+joined_symbols nil ws = refl
+joined_symbols (cons s ss) ws = rw (joined_symbols ss ws) (sym (append_assoc (term_symbols s) (row_symbols ss) (row_symbols ws)))
 
 joined_ends : (ss ws : Terms) (a : ℕ) → row_ends (joined ss ws) a ≡ row_ends ss a ++ row_ends ws (a + sizes ss)
 unfolding joined term_ends size
@@ -65,19 +63,12 @@ depth_view (op o ts) = refl
 depth_view (cond t x y) = omega arith
 depth_view (call f ss ws) = ap suc (sym (joined_depths ss ws))
 
-pub words_view : (t : Term) → term_words t ≡ root t ∷ row_words (row t)
-unfolding term_words row root
-words_view (arg i) = refl
-words_view (op o ts) = refl
-words_view (cond t x y) = simp append-nil
-words_view (call f ss ws) = ap (λ (l : List ℕ). (first_function + f) ∷ l) (sym (joined_words ss ws))
-
-pub values_view : (t : Term) → term_values t ≡ root_value t ∷ row_values (row t)
-unfolding term_values row root_value
-values_view (arg i) = refl
-values_view (op o ts) = refl
-values_view (cond t x y) = simp append-nil
-values_view (call f ss ws) = ap (λ (l : List ℕ). 0 ∷ l) (sym (joined_values ss ws))
+pub symbols_view : (t : Term) → term_symbols t ≡ root t ∷ row_symbols (row t)
+unfolding term_symbols row root
+symbols_view (arg i) = refl
+symbols_view (op o ts) = refl
+symbols_view (cond t x y) = simp append-nil
+symbols_view (call f ss ws) = ap (λ (l : List Symbol). Function f ∷ l) (sym (joined_symbols ss ws))
 
 pub ends_view : (t : Term) (a : ℕ) → term_ends t a ≡ (a + size t) ∷ row_ends (row t) (suc a)
 unfolding term_ends row size
@@ -110,10 +101,9 @@ lead_few (op o ts) = omega arith
 lead_few (cond t x y) = omega arith
 lead_few (call f ss ws) = omega (arith, joined_count ss ws)
 
-op_leads : (H : List ℕ) (o : Op) → leads_of H (op_word o) ≡ length (domain o)
-unfolding leads_of op_word domain
-op_leads H (constant number v) = refl
-op_leads H (constant yes_no v) = refl
+op_leads : (H : List Signature) (o : Op) → leads_of H (op_symbol o) ≡ length (domain o)
+unfolding leads_of op_symbol domain
+op_leads H (constant s v) = refl
 op_leads H add = refl
 op_leads H sub = refl
 op_leads H mul = refl
@@ -125,22 +115,12 @@ op_leads H and = refl
 op_leads H or = refl
 op_leads H neg = refl
 
-argument_leads : (H : List ℕ) (w : ℕ) → w < first_operation → leads_of H w ≡ 0
-unfolding leads_of
-argument_leads H w h = rw (lt-ltb w first_operation h)
-
-function_leads : (H : List ℕ) (f : ℕ) → leads_of H (first_function + f) ≡ strict_in (get_or H f 0)
-unfolding leads_of
-function_leads H f =
-    let same : first_function + f - first_function ≡ f = omega arith in
-    rw (le-ltb (first_function + f) first_operation (omega arith), le-ltb (first_function + f) not_word (omega arith), le-ltb (first_function + f) first_function (omega arith), same)
-
-pub lead_view : (H : List ℕ) (t : Term) → Shaped (Told H) most_arguments t → leads_of H (root t) ≡ lead t
-unfolding root lead Shaped
-lead_view H (arg i) h = argument_leads H (suc i) (omega (arith, h))
+pub lead_view : (H : List Signature) (t : Term) → Shaped (Told H) most_arguments t → leads_of H (root t) ≡ lead t
+unfolding leads_of root lead Shaped
+lead_view H (arg i) h = refl
 lead_view H (op o ts) h = op_leads H o ∙ sym h.0
-lead_view H (cond t x y) h = unfold leads_of in refl
-lead_view H (call f ss ws) h = function_leads H f ∙ h.0.strict
+lead_view H (cond t x y) h = refl
+lead_view H (call f ss ws) h = h.0.strict
 
 row_entered : (ts us : Terms) (a home others : ℕ) → follower_of (suc (count ts)) (joined ts us) a home others ≡ row_entrance ts a home
 unfolding follower_of count joined entrance

@@ -1,26 +1,23 @@
--- A term as its symbol sees it: the symbol's word and value, its row of arguments, how many of them are worked out before it, what follows them,
--- and its one instruction. The pages of `meaning` say the same by kinds of terms; proofs/View.antt joins the two. Assumes nothing.
-use Rattle.std.specs.Prelude.{◌≡◌, refl, List, [], ◌∷◌, ◌++◌, ℕ, zero, suc, ◌+◌, ◌-◌, ◌/◌, ltb, get_or, if◌then◌else◌}
-use Rattle.meaning.specs.Arithmetic.{add, neg, op_constant}
+-- A term as its symbol sees it: the symbol, its row of arguments, how many of them are worked out before it, what follows them, and its one instruction.
+-- The pages of `meaning` say the same by kinds of terms; proofs/View.antt joins the two. Assumes nothing.
+use Rattle.std.specs.Prelude.{List, [], ◌∷◌, ◌++◌, ℕ, zero, suc, ◌+◌, get_or, slice_get}
+use Rattle.std.specs.Option.{option_map_or}
 use Rattle.meaning.specs.Terms.{Term, arg, op, cond, call, Terms, nil, cons, Program}
 use Rattle.meaning.specs.Code.{size, sizes, count, entrance, row_entrance, entrances, unsorted, Instruction, EVAL, EXEC, SELECT, CALL, code}
-use Rattle.table.specs.Table.{op_word, cond_word, first_function, strict_unit}
+use Rattle.table.specs.Symbols.{op_symbol}
+use Rattle.table.specs.declared.Signature.{Signature}
+use Rattle.table.specs.declared.Symbol.{Symbol}
+use Rattle.table.specs.declared.Symbol.TheVariants.{Unknown, Argument, Constant, Operation, Not, Cond, Function}
 
 unfoldable pub joined : Terms → Terms → Terms
 joined nil us = us
 joined (cons t ts) us = cons t (joined ts us)
 
-unfoldable pub root : Term → ℕ
-root (arg i) = suc i
-root (op o ts) = op_word o
-root (cond t x y) = cond_word
-root (call f ss ws) = first_function + f
-
-unfoldable pub root_value : Term → ℕ
-root_value (arg i) = 0
-root_value (op o ts) = op_constant o
-root_value (cond t x y) = 0
-root_value (call f ss ws) = 0
+unfoldable pub root : Term → Symbol
+root (arg i) = Argument i
+root (op o ts) = op_symbol o
+root (cond t x y) = Cond
+root (call f ss ws) = Function f
 
 unfoldable pub row : Term → Terms
 row (arg i) = nil
@@ -35,25 +32,19 @@ lead (op o ts) = count ts
 lead (cond t x y) = 1
 lead (call f ss ws) = count ss
 
--- The same from the symbol's word, H being the functions' signatures. Below the operations stand arguments and constants; `!` takes one argument.
-abbrev pub first_operation : ℕ
-first_operation = 11
+-- A function's strict count in the signatures, 0 past them.
+abbrev pub strict_at : List Signature → ℕ → ℕ
+strict_at H f = option_map_or (λ h. h.strict) (slice_get H f) 0
 
-abbrev pub not_word : ℕ
-not_word = 20
-
-pub operations_agree : op_word add ∷ op_word neg ∷ [] ≡ first_operation ∷ not_word ∷ []
-unfolding op_word
-operations_agree = refl
-
--- A signature's strict count.
-abbrev pub strict_in : ℕ → ℕ
-strict_in signature = signature / strict_unit
-
-unfoldable pub leads_of : List ℕ → ℕ → ℕ
-leads_of H w =
-    if ltb w first_operation then 0
-    else (if ltb w not_word then 2 else (if ltb w first_function then 1 else strict_in (get_or H (w - first_function) 0)))
+-- The same from the symbol, H being the functions' signatures.
+unfoldable pub leads_of : List Signature → Symbol → ℕ
+leads_of H Unknown = 0
+leads_of H (Argument i) = 0
+leads_of H (Constant s v) = 0
+leads_of H (Operation o) = 2
+leads_of H Not = 1
+leads_of H Cond = 1
+leads_of H (Function f) = strict_at H f
 
 -- What follows the other arguments, b being what follows the term: "after either branch, what follows that `cond`; after a waiting argument .. RET".
 unfoldable pub after : ℕ → Term → ℕ → ℕ

@@ -1,9 +1,9 @@
 -- Laws of fields: pieces by place, forms, decimals, packed names. Assumes nothing.
-use Rattle.std.specs.Prelude.{if◌then◌else◌}
+use Rattle.std.specs.Prelude.{if◌then◌else◌, Some, None}
 use mathlib.Core.Path.{◌≡◌, refl, ap, sym, ◌∙◌}
-use mathlib.Core.List.{List, [], ◌∷◌}
-use mathlib.Core.Bool.{Bool, true, false, ◌&&◌, and_assoc}
-use Prim.Native.Nat.{ℕ, zero, suc, ◌+◌, ◌-◌, ◌*◌, ◌^◌, ◌<◌, ◌≤◌}
+use mathlib.Core.List.{List, [], ◌∷◌, reverse}
+use mathlib.Core.Bool.{Bool, true, false, ◌&&◌, and_assoc, and-false, false≢true}
+use Prim.Native.Nat.{ℕ, suc, ◌+◌, ◌-◌, ◌*◌, ◌^◌, ◌<◌, ◌≤◌}
 use native.Mathlib.Omega.{arith}
 use native.Mathlib.Numerals.{add-one}
 use native.Mathlib.Nat.{pow-succ', pow-le-pow_right}
@@ -12,18 +12,17 @@ use lib.Seq.{drop-cons, drop-drop, take_all, get_or-drop, length-take-le}
 use lib.Dec.{ltb, leb, eqb}
 use borrow.Author.Tests.{lt-ltb, le-ltb, eq-eqb, ne_eqb, le-leb, lt-leb, leb-true, leb-false, eqb-true, eqb-false}
 use Rattle.meaning.specs.Basics.{between, all}
-use Rattle.meaning.specs.Text.{Field, pieces, onto_first, is_visible, is_name, is_count, are_sorts, is_result, is_sort, is_digit, is_capital, value_from, same}
+use Rattle.meaning.specs.Text.{Field, pieces, onto_first, is_visible, is_name, are_sorts, is_sort, is_digit, is_capital, value_from, same}
 use Rattle.meaning.specs.Terms.{is_decimal}
 use Rattle.reader.proofs.Laws.{span_within}
-use Rattle.fields.specs.Fields.{span, rest, visible_span, occurrences, is_name_byte, count_of, decimal_of, digits_from, packed}
-use Rattle.fields.specs.declared.Strict.TheVariants as strict
-use Rattle.fields.specs.declared.Decimal.TheVariants.{Not, Value}
+use Rattle.std.specs.List.{list_all, filter, prefix_len, fold}
+use Rattle.std.proofs.Common.{bit_or, ◌%◌}
+use Rattle.std.proofs.lemmas.Grind.{fold-append}
+use Rattle.std.proofs.lemmas.List.{reverse-append}
+use Rattle.std.proofs.lemmas.Nat.{or_shifted, shl_whole}
+use Rattle.fields.specs.Fields.{span, rest, visible_span, occurrences, is_name_byte, decimal_of, digits_from, packed}
 
 -- Tests.
-
-pub and_false : (t : Bool) → t && false ≡ false
-and_false true = refl
-and_false false = refl
 
 pub and_left : (a b : Bool) → a && b ≡ true → a ≡ true
 and_left true b e = refl
@@ -31,7 +30,7 @@ and_left false b e = e
 
 pub and_right : (a b : Bool) → a && b ≡ true → b ≡ true
 and_right true b e = e
-and_right false b e = let z : ◌≡◌ {A = ℕ} 0 1 = cc in absurd (omega arith)
+and_right false b e = absurd (false≢true e)
 
 -- Pieces.
 
@@ -61,23 +60,9 @@ unfolding rest
 no_piece b l at h = rw (drop_of_length-le l h)
 
 -- Visible bytes, and the field that they begin.
-pub visible_stop : (s : List ℕ) (i : ℕ) → length s ≤ i → i + visible_span (drop i s) ≡ i
-unfolding visible_span
-visible_stop s i h = rw (drop_of_length-le s h) (omega arith)
-
-pub visible_here : (s : List ℕ) (i : ℕ) (v : Bool) → i < length s → v ≡ between 33 126 (get_or s i 0) → v ≡ false → i + visible_span (drop i s) ≡ i
-unfolding visible_span
-visible_here s i v h x e = rw (drop-cons s i 0, ← x, e) (omega arith)
-
-pub visible_on : (s : List ℕ) (i : ℕ) (v : Bool) → i < length s → v ≡ between 33 126 (get_or s i 0) → v ≡ true → (i + 1) + visible_span (drop (i + 1) s) ≡ i + visible_span (drop i s)
-unfolding visible_span
-visible_on s i v h x e = rw (drop-cons s i 0, ← x, e, add-one) (omega arith)
-
-false_is_true : {A : Type 0} → false ≡ true → A
-false_is_true e = let z : ◌≡◌ {A = ℕ} 0 1 = cc in absurd (omega arith)
 
 not_tab : (x : ℕ) → between 33 126 x ≡ true → eqb x 9 ≡ false
-not_tab x e = ne_eqb x 9 λ q. false_is_true (sym (ap (between 33 126) q) ∙ e)
+not_tab x e = ne_eqb x 9 λ q. absurd (false≢true (sym (ap (between 33 126) q) ∙ e))
 
 abbrev all_visible : List ℕ → Bool
 all_visible = all (between 33 126)
@@ -87,7 +72,7 @@ to_end_by : (x : ℕ) (s : List ℕ) (v t : Bool) → between 33 126 x ≡ v →
     (length s ≤ visible_span s → (span 9 s ≡ length s) × (all_visible s ≡ true)) → suc (length s) ≤ (if v then suc (visible_span s) else 0) →
     ((if t then 0 else suc (span 9 s)) ≡ suc (length s)) × (v && all_visible s ≡ true)
 to_end_by x s false t p q ih h = absurd (omega (arith, h))
-to_end_by x s true true p q ih h = false_is_true (sym (not_tab x p) ∙ q)
+to_end_by x s true true p q ih h = absurd (false≢true (sym (not_tab x p) ∙ q))
 to_end_by x s true false p q ih h = let k = ih (omega (arith, h)) in (ap suc k.0, k.1)
 
 to_end : (s : List ℕ) → length s ≤ visible_span s → (span 9 s ≡ length s) × (all_visible s ≡ true)
@@ -102,8 +87,8 @@ to_tab_by : (x : ℕ) (s : List ℕ) (v t : Bool) → between 33 126 x ≡ v →
     ((if t then 0 else suc (span 9 s)) ≡ (if v then suc (visible_span s) else 0)) × (all_visible (take (if v then suc (visible_span s) else 0) (x ∷ s)) ≡ true)
 unfolding all
 to_tab_by x s false true p q ih h e = (refl, refl)
-to_tab_by x s false false p q ih h e = false_is_true (sym q ∙ eq-eqb x 9 e)
-to_tab_by x s true true p q ih h e = false_is_true (sym (not_tab x p) ∙ q)
+to_tab_by x s false false p q ih h e = absurd (false≢true (sym q ∙ eq-eqb x 9 e))
+to_tab_by x s true true p q ih h e = absurd (false≢true (sym (not_tab x p) ∙ q))
 to_tab_by x s true false p q ih h e = let k = ih (omega (arith, h)) e in (ap suc k.0, simp (p, k.1))
 
 to_tab : (s : List ℕ) → visible_span s < length s → get_or s (visible_span s) 0 ≡ 9 → (span 9 s ≡ visible_span s) × (all_visible (take (visible_span s) s) ≡ true)
@@ -119,7 +104,7 @@ to_other_by : (x : ℕ) (s : List ℕ) (v t : Bool) → between 33 126 x ≡ v �
 unfolding all
 to_other_by x s false true p q ih h e = absurd (e (eqb-true x 9 q))
 to_other_by x s false false p q ih h e = rw p
-to_other_by x s true true p q ih h e = false_is_true (sym (not_tab x p) ∙ q)
+to_other_by x s true true p q ih h e = absurd (false≢true (sym (not_tab x p) ∙ q))
 to_other_by x s true false p q ih h e = simp (p, ih (omega (arith, h)) e)
 
 to_other : (s : List ℕ) → visible_span s < length s → (get_or s (visible_span s) 0 ≡ 9 → ⊥) → all_visible (take (span 9 s) s) ≡ false
@@ -132,7 +117,7 @@ blank_by : (x : ℕ) (s : List ℕ) (v t : Bool) → between 33 126 x ≡ v → 
 unfolding all
 blank_by x s true t p q z = absurd (omega (arith, z))
 blank_by x s false true p q z = refl
-blank_by x s false false p q z = rw p (and_false (leb 1 (suc (length (take (span 9 s) s)))))
+blank_by x s false false p q z = rw p (and-false (leb 1 (suc (length (take (span 9 s) s)))))
 
 blank : (s : List ℕ) → visible_span s ≡ 0 → leb 1 (length (take (span 9 s) s)) && all_visible (take (span 9 s) s) ≡ false
 unfolding span visible_span
@@ -165,37 +150,39 @@ module _ (l : List ℕ) (a e : ℕ) (h : a ≤ length l) (q : e ≡ a + visible_
 
   pub sight_other : e < length l → (get_or l e 0 ≡ 9 → ⊥) → is_visible the_field ≡ false
   unfolding is_visible
-  sight_other k t = rw (to_other (drop a l) (omega (arith, length-drop a l)) (λ z. t (sym sight_at ∙ z))) (and_false (leb 1 (length the_field)))
+  sight_other k t = rw (to_other (drop a l) (omega (arith, length-drop a l)) (λ z. t (sym sight_at ∙ z))) (and-false (leb 1 (length the_field)))
 
   pub sight_none : e ≡ a → is_visible the_field ≡ false
   unfolding is_visible
   sight_none z = blank (drop a l) (omega (arith, q))
 
--- Occurrences, counted from the end.
-pub occurs_none : (b : ℕ) (s : List ℕ) (i : ℕ) → length s ≤ i → 0 ≡ occurrences b (drop i s)
+-- The iterators' words: what `all`, `filter` with `count`, and `take_while` with `count` come to.
+pub all_is : (p : ℕ → Bool) (s : List ℕ) → list_all p s ≡ all p s
+unfolding all
+all_is p [] = refl
+all_is p (x ∷ s) = ap (λ (b : Bool). p x && b) (all_is p s)
+
+pub occurrences_is : (b : ℕ) (s : List ℕ) → length (filter (λ x. eqb x b) s) ≡ occurrences b s
 unfolding occurrences
-occurs_none b s i h = rw (drop_of_length-le s h)
+occurrences_is b [] = refl
+occurrences_is b (x ∷ s) = by_test (eqb x b) (occurrences_is b s)
+  where
+    by_test : (t : Bool) → length (filter (λ x. eqb x b) s) ≡ occurrences b s →
+        length (if t then x ∷ filter (λ x. eqb x b) s else filter (λ x. eqb x b) s) ≡ (if t then suc (occurrences b s) else occurrences b s)
+    by_test true h = ap suc h
+    by_test false h = h
 
-pub one_less : (s : List ℕ) (i n : ℕ) → 0 < i → drop i s ≡ drop (i - 1 + 1) s
-one_less s i n h = let e : i ≡ i - 1 + 1 = omega arith in ap (λ (k : ℕ). drop k s) e
+pub visible_span_is : (s : List ℕ) → prefix_len (between 33 126) s ≡ visible_span s
+unfolding visible_span
+visible_span_is [] = refl
+visible_span_is (x ∷ s) = ap (λ (n : ℕ). if between 33 126 x then n else 0) (omega (arith, visible_span_is s))
 
-pub at_start : (s : List ℕ) (i : ℕ) → i ≤ 0 → drop i s ≡ s
-at_start s i h = let e : i ≡ 0 = omega arith in rw e
-
-pub occurs_here : (b : ℕ) (s : List ℕ) (i : ℕ) → i < length s → get_or s i 0 ≡ b → occurrences b (drop i s) ≡ occurrences b (drop (i + 1) s) + 1
-unfolding occurrences
-occurs_here b s i h e = rw (drop-cons s i 0, eq-eqb _ _ e, add-one i) (omega arith)
-
-pub occurs_not : (b : ℕ) (s : List ℕ) (i : ℕ) → i < length s → (get_or s i 0 ≡ b → ⊥) → occurrences b (drop i s) ≡ occurrences b (drop (i + 1) s)
-unfolding occurrences
-occurs_not b s i h e = rw (drop-cons s i 0, ne_eqb _ _ e, add-one i)
-
+-- One more piece than there are bytes b.
 onto_length : (x : ℕ) (ps : List Field) → 0 < length ps → length (onto_first x ps) ≡ length ps
 unfolding onto_first
 onto_length x [] h = absurd (omega (arith, h))
 onto_length x (p ∷ ps) h = refl
 
--- One more piece than there are bytes b.
 occurs_by : (b x : ℕ) (xs : List ℕ) (t : Bool) → length (pieces b xs) ≡ suc (occurrences b xs) →
     length (if t then [] ∷ pieces b xs else onto_first x (pieces b xs)) ≡ suc (if t then suc (occurrences b xs) else occurrences b xs)
 occurs_by b x xs true ih = ap suc ih
@@ -208,128 +195,55 @@ piece_count b (x ∷ xs) = occurs_by b x xs (eqb x b) (piece_count b xs)
 
 -- Forms.
 
-pub between_low : (a b x : ℕ) → x < a → false ≡ between a b x
-between_low a b x h = rw (lt-leb a x h)
+pub name_is : (f : List ℕ) → 1 ≤ length f → length f ≤ 8 → is_name f ≡ is_capital (get_or f 0 0) && all is_name_byte (drop 1 f)
+unfolding is_name
+name_is [] z l = absurd (omega (arith, z))
+name_is (y ∷ f) z l = rw (le-leb (length f) 7 (omega (arith, l)))
 
-pub between_high : (a b x : ℕ) → a ≤ x → leb x b ≡ between a b x
-between_high a b x h = rw (le-leb a x h)
-
-pub all_end : (p : ℕ → Bool) (s : List ℕ) (i : ℕ) → length s ≤ i → true ≡ all p (drop i s)
-unfolding all
-all_end p s i h = rw (drop_of_length-le s h)
-
-pub all_not : (p : ℕ → Bool) (s : List ℕ) (i : ℕ) (v : Bool) → i < length s → v ≡ p (get_or s i 0) → v ≡ false → false ≡ all p (drop i s)
-unfolding all
-all_not p s i v h x e = rw (drop-cons s i 0, ← x, e)
-
-pub all_on : (p : ℕ → Bool) (s : List ℕ) (i : ℕ) (v : Bool) → i < length s → v ≡ p (get_or s i 0) → v ≡ true → all p (drop (i + 1) s) ≡ all p (drop i s)
-unfolding all
-all_on p s i v h x e = rw (drop-cons s i 0, ← x, e, add-one)
-
-positive : (n : ℕ) → (n ≡ 0 → ⊥) → 1 ≤ n
-positive zero z = absurd (z refl)
-positive (suc n) z = omega arith
-
-pub none_visible : (s : List ℕ) → length s ≡ 0 → false ≡ is_visible s
-unfolding is_visible
-none_visible s e = rw (lt-leb 1 (length s) (omega (arith, e)))
-
-pub some_visible : (s : List ℕ) → (length s ≡ 0 → ⊥) → all (between 33 126) s ≡ is_visible s
-unfolding is_visible
-some_visible s e = rw (le-leb 1 (length s) (positive (length s) e))
-
-pub name_none : (f : List ℕ) → length f ≡ 0 → false ≡ is_name f
+pub name_none : (f : List ℕ) → length f < 1 → is_name f ≡ false
 unfolding is_name
 name_none [] e = refl
 name_none (x ∷ f) e = absurd (omega (arith, e))
 
-pub name_long : (f : List ℕ) → 8 < length f → false ≡ is_name f
+pub name_long : (f : List ℕ) → 8 < length f → is_name f ≡ false
 unfolding is_name
 name_long [] e = refl
-name_long (x ∷ f) e = rw (lt-leb (length f) 7 (omega (arith, e))) (sym (and_false (is_capital x)))
+name_long (x ∷ f) e = rw (lt-leb (length f) 7 (omega (arith, e))) (and-false (is_capital x))
 
-pub name_small : (f : List ℕ) (v : Bool) → (length f ≡ 0 → ⊥) → v ≡ is_capital (get_or f 0 0) → v ≡ false → false ≡ is_name f
-unfolding is_name
-name_small [] v z x e = refl
-name_small (y ∷ f) v z x e = rw (← x, e)
-
-pub name_rest : (f : List ℕ) (v : Bool) → (length f ≡ 0 → ⊥) → length f ≤ 8 → v ≡ is_capital (get_or f 0 0) → v ≡ true → all is_name_byte (drop 1 f) ≡ is_name f
-unfolding is_name
-name_rest [] v z l x e = absurd (z refl)
-name_rest (y ∷ f) v z l x e = rw (← x, e, le-leb (length f) 7 (omega (arith, l)))
-
-pub strict_long : (f : List ℕ) → (length f ≡ 1 → ⊥) → strict.Not ≡ count_of f
-unfolding count_of is_count
-strict_long [] e = refl
-strict_long (x ∷ []) e = absurd (e refl)
-strict_long (x ∷ y ∷ f) e = refl
-
-pub strict_low : (f : List ℕ) → length f ≡ 1 → get_or f 0 0 < 48 → strict.Not ≡ count_of f
-unfolding count_of is_count
-strict_low [] e h = absurd (omega (arith, e))
-strict_low (x ∷ []) e h = rw (lt-leb 48 x h)
-strict_low (x ∷ y ∷ f) e h = absurd (omega (arith, e))
-
-pub strict_high : (f : List ℕ) → length f ≡ 1 → 48 ≤ get_or f 0 0 → 56 < get_or f 0 0 → strict.Not ≡ count_of f
-unfolding count_of is_count
-strict_high [] e h k = absurd (omega (arith, e))
-strict_high (x ∷ []) e h k = rw (le-leb 48 x h, lt-leb x 56 k)
-strict_high (x ∷ y ∷ f) e h k = absurd (omega (arith, e))
-
-pub strict_is : (f : List ℕ) → length f ≡ 1 → 48 ≤ get_or f 0 0 → get_or f 0 0 ≤ 56 → strict.Is (get_or f 0 0 - 48) ≡ count_of f
-unfolding count_of is_count value_from
-strict_is [] e h k = absurd (omega (arith, e))
-strict_is (x ∷ []) e h k = rw (le-leb 48 x h, le-leb x 56 k) (ap strict.Is (omega arith))
-strict_is (x ∷ y ∷ f) e h k = absurd (omega (arith, e))
-
-pub result_is : (f : List ℕ) → length f ≡ 1 → is_sort (get_or f 0 0) ≡ is_result f
-unfolding is_result
-result_is [] e = absurd (omega (arith, e))
-result_is (x ∷ []) e = refl
-result_is (x ∷ y ∷ f) e = absurd (omega (arith, e))
-
-pub result_long : (f : List ℕ) → (length f ≡ 1 → ⊥) → false ≡ is_result f
-unfolding is_result
-result_long [] e = refl
-result_long (x ∷ []) e = absurd (e refl)
-result_long (x ∷ y ∷ f) e = refl
-
-pub sorts_none : (s : ℕ) (f : List ℕ) → length f ≡ 0 → false ≡ are_sorts s f
+pub sorts_are : (s : ℕ) (f : List ℕ) → 1 ≤ length f → length f ≤ 8 → are_sorts s f ≡ leb s (length f) && all is_sort f
 unfolding are_sorts
-sorts_none s f e = rw (lt-leb 1 (length f) (omega (arith, e)))
+sorts_are s f z l = rw (le-leb 1 (length f) z, le-leb (length f) 8 l)
 
-pub sorts_long : (s : ℕ) (f : List ℕ) → 8 < length f → false ≡ are_sorts s f
+pub sorts_none : (s : ℕ) (f : List ℕ) → length f < 1 → are_sorts s f ≡ false
 unfolding are_sorts
-sorts_long s f e = rw (lt-leb (length f) 8 e) (rw (and_false (leb 1 (length f))))
+sorts_none s f e = rw (lt-leb 1 (length f) e)
 
-pub sorts_few : (s : ℕ) (f : List ℕ) → (length f ≡ 0 → ⊥) → length f ≤ 8 → length f < s → false ≡ are_sorts s f
+pub sorts_long : (s : ℕ) (f : List ℕ) → 8 < length f → are_sorts s f ≡ false
 unfolding are_sorts
-sorts_few s f z l e = rw (le-leb 1 (length f) (positive (length f) z), le-leb (length f) 8 l, lt-leb s (length f) e)
-
-pub sorts_rest : (s : ℕ) (f : List ℕ) → (length f ≡ 0 → ⊥) → length f ≤ 8 → s ≤ length f → all is_sort f ≡ are_sorts s f
-unfolding are_sorts
-sorts_rest s f z l e = rw (le-leb 1 (length f) (positive (length f) z), le-leb (length f) 8 l, le-leb s (length f) e)
+sorts_long s f e = rw (lt-leb (length f) 8 e, and-false (leb 1 (length f)))
 
 -- Decimals.
 
-pub digits_low : (s : List ℕ) (v i : ℕ) → i < length s → get_or s i 0 < 48 → Not ≡ digits_from v (drop i s)
+pub digits_stop : (s : List ℕ) (v i : ℕ) → i < length s → is_digit (get_or s i 0) ≡ false → None ≡ digits_from v (drop i s)
 unfolding digits_from
-digits_low s v i h e = rw (drop-cons s i 0, lt-ltb _ _ e)
+digits_stop s v i h e = rw (drop-cons s i 0) (by_low (leb 48 (get_or s i 0)) refl)
+  where
+    by_low : (a : Bool) → leb 48 (get_or s i 0) ≡ a → None ≡ digits_from v (get_or s i 0 ∷ drop (suc i) s)
+    by_low true p =
+        let q : leb (get_or s i 0) 57 ≡ false = simp p at e in
+        rw (le-ltb _ _ (leb-true 48 (get_or s i 0) p), lt-ltb _ _ (leb-false (get_or s i 0) 57 q))
+    by_low false p = rw (lt-ltb _ _ (leb-false 48 (get_or s i 0) p))
 
-pub digits_high : (s : List ℕ) (v i : ℕ) → i < length s → 48 ≤ get_or s i 0 → 57 < get_or s i 0 → Not ≡ digits_from v (drop i s)
-unfolding digits_from
-digits_high s v i h e k = rw (drop-cons s i 0, le-ltb _ _ e, lt-ltb _ _ k)
-
-pub digits_over : (s : List ℕ) (v i : ℕ) → i < length s → 48 ≤ get_or s i 0 → get_or s i 0 ≤ 57 → 4294967296 ≤ v * 10 + (get_or s i 0 - 48) → Not ≡ digits_from v (drop i s)
+pub digits_over : (s : List ℕ) (v i : ℕ) → i < length s → 48 ≤ get_or s i 0 → get_or s i 0 ≤ 57 → 4294967296 ≤ v * 10 + (get_or s i 0 - 48) → None ≡ digits_from v (drop i s)
 unfolding digits_from
 digits_over s v i h e k l = rw (drop-cons s i 0, le-ltb _ _ e, le-ltb _ _ k, le-leb _ _ l)
 
-pub digits_on : (s : List ℕ) (v i : ℕ) → i < length s → 48 ≤ get_or s i 0 → get_or s i 0 ≤ 57 → v * 10 + (get_or s i 0 - 48) < 4294967296 →
-    digits_from (v * 10 + (get_or s i 0 - 48)) (drop (i + 1) s) ≡ digits_from v (drop i s)
+pub digits_on : (s : List ℕ) (v i n : ℕ) → i < length s → 48 ≤ get_or s i 0 → get_or s i 0 ≤ 57 → n ≡ v * 10 + (get_or s i 0 - 48) → n < 4294967296 →
+    digits_from n (drop (i + 1) s) ≡ digits_from v (drop i s)
 unfolding digits_from
-digits_on s v i h e k l = rw (drop-cons s i 0, le-ltb _ _ e, le-ltb _ _ k, lt-leb _ _ l, add-one)
+digits_on s v i n h e k p l = rw (drop-cons s i 0, le-ltb _ _ e, le-ltb _ _ k, ← p, lt-leb _ _ l, add-one)
 
-pub digits_end : (s : List ℕ) (v i : ℕ) → length s ≤ i → Value v ≡ digits_from v (drop i s)
+pub digits_end : (s : List ℕ) (v i : ℕ) → length s ≤ i → Some v ≡ digits_from v (drop i s)
 unfolding digits_from
 digits_end s v i h = rw (drop_of_length-le s h)
 
@@ -340,7 +254,7 @@ value_grows v (x ∷ xs) = omega (arith, value_grows (v * 10 + (x - 48)) xs)
 
 -- From the left, and by the readable definition.
 abbrev Fold : ℕ → List ℕ → Type 0
-Fold v s = digits_from v s ≡ (if all is_digit s && ltb (value_from v s) 4294967296 then Value (value_from v s) else Not)
+Fold v s = digits_from v s ≡ (if all is_digit s && ltb (value_from v s) 4294967296 then Some (value_from v s) else None)
 
 by_byte : (v x : ℕ) (xs : List ℕ) (a b o : Bool) → leb 48 x ≡ a → leb x 57 ≡ b → leb 4294967296 (v * 10 + (x - 48)) ≡ o →
     (v * 10 + (x - 48) < 4294967296 → Fold (v * 10 + (x - 48)) xs) → Fold v (x ∷ xs)
@@ -349,7 +263,7 @@ by_byte v x xs false b o p q r ih = simp (p, lt-ltb x 48 (leb-false 48 x p))
 by_byte v x xs true false o p q r ih = simp (p, q, le-ltb x 48 (leb-true 48 x p), lt-ltb 57 x (leb-false x 57 q))
 by_byte v x xs true true true p q r ih =
     let big : 4294967296 ≤ value_from (v * 10 + (x - 48)) xs = omega (arith, leb-true 4294967296 (v * 10 + (x - 48)) r, value_grows (v * 10 + (x - 48)) xs) in
-    simp (p, q, r, le-ltb x 48 (leb-true 48 x p), le-ltb 57 x (leb-true x 57 q), le-ltb _ _ big) (rw (and_false (all is_digit xs)))
+    simp (p, q, r, le-ltb x 48 (leb-true 48 x p), le-ltb 57 x (leb-true x 57 q), le-ltb _ _ big) (rw (and-false (all is_digit xs)))
 by_byte v x xs true true false p q r ih =
     simp (p, q, r, le-ltb x 48 (leb-true 48 x p), le-ltb 57 x (leb-true x 57 q)) (ih (leb-false _ _ r))
 
@@ -359,21 +273,15 @@ digits_are v [] h = simp (lt-ltb _ _ h)
 digits_are v (x ∷ xs) h =
     by_byte v x xs (leb 48 x) (leb x 57) (leb 4294967296 (v * 10 + (x - 48))) refl refl refl (digits_are (v * 10 + (x - 48)) xs)
 
-pub decimal_none : (f : List ℕ) → length f ≡ 0 → Not ≡ decimal_of f
+pub decimal_none : (f : List ℕ) → length f ≡ 0 → None ≡ decimal_of f
 unfolding decimal_of is_decimal
 decimal_none [] e = refl
 decimal_none (x ∷ f) e = absurd (omega (arith, e))
 
-pub decimal_zero : (f : List ℕ) → get_or f 0 0 ≡ 48 → length f ≡ 1 → Value 0 ≡ decimal_of f
-unfolding decimal_of is_decimal value_from
-decimal_zero [] e l = absurd (omega (arith, l))
-decimal_zero (x ∷ []) e l = rw e
-decimal_zero (x ∷ y ∷ f) e l = absurd (omega (arith, l))
-
-pub decimal_led : (f : List ℕ) → get_or f 0 0 ≡ 48 → (length f ≡ 1 → ⊥) → Not ≡ decimal_of f
+pub decimal_led : (f : List ℕ) → get_or f 0 0 ≡ 48 → 2 ≤ length f → None ≡ decimal_of f
 unfolding decimal_of is_decimal value_from
 decimal_led [] e l = refl
-decimal_led (x ∷ []) e l = absurd (l refl)
+decimal_led (x ∷ []) e l = absurd (omega (arith, l))
 decimal_led (x ∷ y ∷ f) e l = rw e
 
 digit_or_led : (x : ℕ) → (x ≡ 48 → ⊥) → between 49 57 x ≡ is_digit x
@@ -383,41 +291,44 @@ digit_or_led x n = by_low (leb 48 x) refl
     by_low true p = simp (p, le-leb 49 x (omega (arith, leb-true 48 x p)))
     by_low false p = simp (p, lt-leb 49 x (omega (arith, leb-false 48 x p)))
 
-small : (x n : ℕ) (a b : Bool) → n ≤ x → leb x 57 ≡ b → (if a && b then Value n else Not) ≡ (if (a && b && true) && ltb n 4294967296 then Value n else Not)
+small : (x n : ℕ) (a b : Bool) → n ≤ x → leb x 57 ≡ b → (if a && b then Some n else None) ≡ (if (a && b && true) && ltb n 4294967296 then Some n else None)
 small x n false b h e = refl
 small x n true false h e = refl
 small x n true true h e = simp (lt-ltb n 4294967296 (omega (arith, leb-true x 57 e)))
 
-pub decimal_digits : (f : List ℕ) → (length f ≡ 0 → ⊥) → (get_or f 0 0 ≡ 48 → ⊥) → digits_from 0 f ≡ decimal_of f
+pub decimal_digits : (f : List ℕ) → 1 ≤ length f → (get_or f 0 0 ≡ 48 → length f < 2) → digits_from 0 f ≡ decimal_of f
 unfolding decimal_of is_decimal value_from all
-decimal_digits [] l e = absurd (l refl)
+decimal_digits [] l e = absurd (omega (arith, l))
 decimal_digits (x ∷ []) l e = digits_are 0 (x ∷ []) (omega arith) ∙ sym (small x (0 * 10 + (x - 48)) (leb 48 x) (leb x 57) (omega arith) refl)
-decimal_digits (x ∷ y ∷ f) l e = digits_are 0 (x ∷ y ∷ f) (omega arith) ∙ rw (digit_or_led x e, and_assoc (is_digit x) (all is_digit (y ∷ f)) (ltb (value_from 0 (x ∷ y ∷ f)) 4294967296))
+decimal_digits (x ∷ y ∷ f) l e =
+    digits_are 0 (x ∷ y ∷ f) (omega arith) ∙ rw (digit_or_led x (λ q. absurd (omega (arith, e q))), and_assoc (is_digit x) (all is_digit (y ∷ f)) (ltb (value_from 0 (x ∷ y ∷ f)) 4294967296))
 
 -- Packed names.
 
-pub packed_end : (f : List ℕ) (i : ℕ) → length f ≤ i → 0 ≡ packed (drop i f)
-unfolding packed
-packed_end f i h = rw (drop_of_length-le f h)
-
-pub packed_on : (f : List ℕ) (i : ℕ) → i < length f → get_or f i 0 + 256 * packed (drop (i + 1) f) ≡ packed (drop i f)
-unfolding packed
-packed_on f i h = rw (drop-cons f i 0, add-one)
-
-pub room_more : (b v k : ℕ) → b < 256 → v < 256 ^ k → b + 256 * v < 256 ^ suc k
+room_more : (b v k : ℕ) → b < 256 → v < 256 ^ k → b + 256 * v < 256 ^ suc k
 room_more b v k h l = rw (pow-succ' 256 k) (omega arith)
 
-pub room : (v k : ℕ) → k ≤ 7 → v < 256 ^ k → v < 72057594037927936
+room : (v k : ℕ) → k ≤ 7 → v < 256 ^ k → v < 72057594037927936
 room v k h l = omega (arith, pow-le-pow_right {n = 256} (omega arith) h)
 
-pub none : (n : ℕ) → n - n ≡ 0
-none n = omega arith
+-- The packed number of bytes fits in as many bytes.
+packed_below : (f : List ℕ) → ((i : ℕ) → get_or f i 0 < 256) → packed f < 256 ^ length f
+unfolding packed
+packed_below [] h = omega arith
+packed_below (x ∷ f) h = room_more x (packed f) (length f) (h 0) (packed_below f (λ i. h (suc i)))
 
-pub packed_back : (f : List ℕ) (i b v : ℕ) → 0 < i → i ≤ length f → b ≡ get_or f (i - 1) 0 → v ≡ packed (drop i f) → b + 256 * v ≡ packed (drop (i - 1) f)
-packed_back f i b v h k x y = rw (x, y, one_less f i 0 h) (packed_on f (i - 1) (omega arith))
+-- One more byte below those that are packed, as the code puts it: by a shift and an or.
+abbrev pub onto_packed : ℕ → ℕ → ℕ
+onto_packed v b = bit_or (v * 256 % 18446744073709551616) b
 
-pub room_back : (n i b v : ℕ) → 0 < i → i ≤ n → b < 256 → v < 256 ^ (n - i) → b + 256 * v < 256 ^ (n - (i - 1))
-room_back n i b v h k x y = let e : n - (i - 1) ≡ suc (n - i) = omega arith in rw e (room_more b v (n - i) x y)
+-- The bytes from the last to the first, one after the other.
+pub packed_fold : (f : List ℕ) → length f ≤ 8 → ((i : ℕ) → get_or f i 0 < 256) → fold onto_packed 0 (reverse f) ≡ packed f
+unfolding packed
+packed_fold [] l h = refl
+packed_fold (x ∷ f) l h =
+    let below : packed f < 72057594037927936 = room (packed f) (length f) (omega (arith, l)) (packed_below f (λ i. h (suc i))) in
+    let whole : packed f * 256 % 18446744073709551616 ≡ packed f * 256 = shl_whole (packed f) 56 8 64 below (omega arith) in
+    rw (reverse-append (x ∷ []) f, fold-append onto_packed 0 (reverse f) (x ∷ []), packed_fold f (omega (arith, l)) (λ i. h (suc i)), whole, or_shifted (packed f) 8 x (h 0)) (omega arith)
 
 -- Of bytes from 1 to 255, equal numbers are equal fields.
 unfoldable pub Bytes : Field → Type 0

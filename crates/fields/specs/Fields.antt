@@ -1,13 +1,9 @@
 -- Fields by place: where a piece of a text ends and what stands after it; a field's digit, decimal and number. Assumes nothing.
-use Rattle.std.specs.Prelude.{Bool, ◌||◌, List, [], ◌∷◌, ℕ, suc, ◌+◌, ◌-◌, ◌*◌, leb, ltb, eqb, if◌then◌else◌}
+use Rattle.std.specs.Prelude.{Bool, ◌||◌, List, [], ◌∷◌, ℕ, suc, ◌+◌, ◌-◌, ◌*◌, leb, ltb, eqb, if◌then◌else◌, Option, Some, None}
 use Rattle.meaning.specs.Basics.{between, byte}
 use Rattle.meaning.specs.Arithmetic.{modulus}
 use Rattle.meaning.specs.Text.{Field, pieces, is_capital, is_digit, is_count, value}
 use Rattle.meaning.specs.Terms.{is_decimal}
-use Rattle.fields.specs.declared.Strict.{Strict}
-use Rattle.fields.specs.declared.Strict.TheVariants as strict
-use Rattle.fields.specs.declared.Decimal.{Decimal}
-use Rattle.fields.specs.declared.Decimal.TheVariants as decimal
 -- Where a piece ends: the reader's, passed on.
 unfoldable pub use Rattle.reader.specs.Span.{span}
 
@@ -29,23 +25,23 @@ abbrev pub is_name_byte : ℕ → Bool
 is_name_byte y = is_capital y || is_digit y
 
 -- The digit that a field is.
-unfoldable pub count_of : Field → Strict
-count_of f = if is_count f then strict.Is (value f) else strict.Not
+unfoldable pub count_of : Field → Option ℕ
+count_of f = if is_count f then Some (value f) else None
 
 -- The decimal that a field is.
-unfoldable pub decimal_of : Field → Decimal
-decimal_of f = if is_decimal f then decimal.Value (value f) else decimal.Not
+unfoldable pub decimal_of : Field → Option ℕ
+decimal_of f = if is_decimal f then Some (value f) else None
 
 -- The same from the left, given up at the first byte that is no digit and once the value is too large.
-unfoldable pub digits_from : ℕ → Field → Decimal
-digits_from v [] = decimal.Value v
+unfoldable pub digits_from : ℕ → Field → Option ℕ
+digits_from v [] = Some v
 digits_from v (x ∷ xs) =
     if ltb x (byte "0")
-    then decimal.Not
+    then None
     else if ltb (byte "9") x
-    then decimal.Not
+    then None
     else if leb modulus (v * 10 + (x - byte "0"))
-    then decimal.Not
+    then None
     else digits_from (v * 10 + (x - byte "0")) xs
 
 -- A field as one number, its first byte the lowest digit of base 256.

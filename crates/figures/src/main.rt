@@ -4,157 +4,84 @@
 // Assumes of std that the bytes of standard input arrive in the buffer and those of the lines are written.
 #![tactic(auto)]
 
-ghost use Rattle.std.specs.Prelude.{◌<◌, ◌≤◌, length, ◌≡◌};
+ghost use Rattle.std.specs.Prelude.{◌<◌, ◌≤◌, length};
+ghost use Rattle.std.specs.Iterator.{at_most};
 
+use arrayvec::ArrayVec;
 use meaning::{MOST_CODE_WORDS, WORK_WORDS};
 use order::MOST_INPUT;
-use printing::Printed;
 use std::io;
 
-// A byte, and where the next one begins.
-#[derive(Clone, Copy)]
-struct Unescaped {
-    byte: u8,
-    next: usize,
-}
-
-// A digit of a decimal or, from ten on, of two that follow \x.
-fn digit(b: u8) -> usize
+// A digit of a decimal or, from ten on, of two that follow \x: by arithmetic, since any byte is to give one and the same cases are to be printed.
+fn digit(b: u8) -> u8
     ensures { result < 87 }
 {
-    let n = b as usize;
-    if n < 58 {
-        return n % 48;
-    }
-    n % 87
+    if b < 58 { b % 48 } else { b % 87 }
 }
 
-// A decimal, or the longest that is lent.
+// A decimal of five digits at most, or the longest that is lent.
 fn length_of(digits: &[u8], most: usize) -> usize
     ensures { result ≤ most }
 {
-    let mut n: usize = 0;
-    let mut i: usize = 0;
-    while i < digits.len() {
-        n = n % 10000 * 10 + digit(digits[i]);
-        i += 1;
-    }
-    if most < n {
-        return most;
-    }
-    n
+    digits
+        .iter()
+        .fold(0, |n, b| n % 10000 * 10 + usize::from(digit(*b)))
+        .min(most)
+}
+
+// The byte of two digits.
+fn two_digits(high: u8, low: u8) -> u8 {
+    digit(high).wrapping_mul(16).wrapping_add(digit(low))
 }
 
 // What \t, \n and \\ stand for.
 fn plain(b: u8) -> u8 {
-    if b == b't' {
-        return 9;
-    }
-    if b == b'n' {
-        return 10;
-    }
-    b
-}
-
-fn byte_at(line: &[u8], i: usize) -> Unescaped
-    requires { i < length line.now }
-    ensures { (i < result.next) × (result.next ≤ length line.now) }
-{
-    let left = line.len() - i;
-    if line[i] == b'\\' {
-        if 1 < left {
-            if line[i + 1] == b'x' {
-                if 3 < left {
-                    let n = digit(line[i + 2]) * 16 + digit(line[i + 3]);
-                    return Unescaped {
-                        byte: (n % 256) as u8,
-                        next: i + 4,
-                    };
-                }
-            }
-            return Unescaped {
-                byte: plain(line[i + 1]),
-                next: i + 2,
-            };
-        }
-    }
-    Unescaped {
-        byte: line[i],
-        next: i + 1,
+    match b {
+        b't' => b'\t',
+        b'n' => b'\n',
+        _ => b,
     }
 }
 
-// The bytes that a line stands for, as far as there is room; how many they are.
-fn unescape(line: &[u8], input: &mut [u8]) -> usize
-    ensures { (result ≤ length input.old) × (length input.new ≡ length input.old) }
-{
-    let mut n: usize = 0;
-    let mut i: usize = 0;
-    while i < line.len() {
-        if input.len() <= n {
-            return n;
-        }
-        let u = byte_at(line, i);
-        input[n] = u.byte;
-        i = u.next;
-        n += 1;
-    }
-    n
-}
+// The bytes that a line stands for.
+#[derive(Drop)]
+struct Unescaped<'a>(&'a [u8]);
 
-fn show(rt: &impl Print, line: Printed) -> io::Result<()>
-    requires { line.len ≤ length line.bytes }
-{
-    let bytes = line.bytes;
-    let len = line.len;
-    rt.write_all(&bytes[..len])
-}
+impl<'a> Iterator for Unescaped<'a> {
+    type Item = u8;
 
-fn figure(
-    rt: &impl Print,
-    line: &[u8],
-    input: &mut [u8],
-    code: &mut [u32],
-    work: &mut [u32],
-) -> io::Result<()> {
-    let a = fields::piece_end(line, 0, fields::TAB);
-    if line.len() - a == 0 {
-        return Ok(());
-    }
-    let b = fields::piece_end(line, a + 1, fields::TAB);
-    if line.len() - b == 0 {
-        return Ok(());
-    }
-    let c = length_of(&line[..a], code.len());
-    let w = length_of(&line[a + 1..b], work.len());
-    let n = unescape(&line[b + 1..], input);
-    show(
-        rt,
-        console::respond(&input[..n], &mut code[..c], &mut work[..w]),
-    )
-}
+    ghost remaining = { λ s. at_most (length s.0.now) };
 
-fn figures(
-    rt: &impl Print,
-    lines: &[u8],
-    input: &mut [u8],
-    code: &mut [u32],
-    work: &mut [u32],
-) -> io::Result<()> {
-    let mut at: usize = 0;
-    while at < lines.len() {
-        let e = fields::piece_end(lines, at, fields::LINE_END);
-        figure(rt, &lines[at..e], input, code, work)?;
-        at = e + 1;
+    fn next(&mut self) -> Option<u8> {
+        let (byte, rest) = match self.0 {
+            [] => return None,
+            [b'\\', b'x', high, low, rest @ ..] => (two_digits(*high, *low), rest),
+            [b'\\', b, rest @ ..] => (plain(*b), rest),
+            [b, rest @ ..] => (*b, rest),
+        };
+        self.0 = rest;
+        Some(byte)
     }
-    Ok(())
 }
 
 fn main(rt: HostRuntime) -> io::Result<()> {
     let mut lines = [0u8; 262144];
-    let mut input = [0u8; MOST_INPUT];
+    let mut input = ArrayVec::<u8, MOST_INPUT>::new();
     let mut code = [0u32; MOST_CODE_WORDS];
     let mut work = [0u32; WORK_WORDS];
     let n = intake::read_full(&rt, &mut lines)?;
-    figures(&rt, &lines[..n], &mut input, &mut code, &mut work)
+    for line in lines[..n].split_inclusive(|b| *b == b'\n') {
+        let line = line.strip_suffix(b"\n").unwrap_or(line);
+        let mut parts = line.splitn(3, |b| *b == b'\t');
+        let (Some(c), Some(w), Some(text)) = (parts.next(), parts.next(), parts.next()) else {
+            continue;
+        };
+        let c = length_of(c, MOST_CODE_WORDS);
+        let w = length_of(w, WORK_WORDS);
+        input.clear();
+        // What finds no room is left out.
+        let _ = input.extend(Unescaped(text));
+        rt.print(console::respond(input.as_slice(), &mut code[..c], &mut work[..w]))?;
+    }
+    Ok(())
 }

@@ -4,9 +4,11 @@ use mathlib.Core.List.{List, ◌∷◌, ◌++◌, map}
 use Prim.Native.Nat.{ℕ, suc, ◌+◌, ◌-◌, ◌*◌, ◌≤◌, ◌<◌}
 use native.Mathlib.Numerals.{add-one}
 use native.Mathlib.Omega.{arith}
-use lib.ListN.{length, get_or, take, drop, set, length-set, get_or-append}
-use lib.Seq.{get_or-set_other, drop-set-lt, length-take-le, get_or-take, get_or-drop, get_or-append-add, drop-drop}
-use borrow.Rule.Slice.PartMut.{mid_of, post_of, put_mid, mid_len, same_len_mid, drop_put}
+use lib.ListN.{length, get_or, drop, set, length-set}
+use lib.Seq.{get_or-set_other, drop-set-lt, drop-drop}
+use borrow.Author.Rules.{rules}
+use Rattle.std.proofs.lemmas.List.{places}
+use borrow.Rule.Slice.PartMut.{mid_of, put_mid, mid_len, same_len_mid, drop_put}
 use Rattle.meaning.specs.Numbers.{most_height, most_arguments, work_words}
 use Rattle.meaning.specs.Machine.{value, waiting, call_body}
 use Rattle.layout.specs.Decoding.{row}
@@ -36,37 +38,28 @@ module _ (w ys : List ℕ) (e h held d k b : ℕ) (ws : List ℕ) (g : Good w e 
   long_topped : length topped ≡ length w
   long_topped = length-set w (values_from + d) held
 
-  long_part : length part ≡ end - start
-  long_part = mid_len start end topped (omega (arith, long_topped, g.room, g.deep))
-
   in_part : (i j : ℕ) → j < end - start → i ≡ start + j → get_or part j 0 ≡ get_or topped i 0
-  in_part i j l q = rw q (get_or-take (end - start) (drop start topped) j 0 l ∙ get_or-drop start topped j 0)
-
-  long_below : length (take start topped) ≡ start
-  long_below = length-take-le start topped (omega (arith, long_topped, g.room))
+  in_part i j l q = rw q (search (rules, places))
 
   below_part : (i : ℕ) → i < start → get_or whole i 0 ≡ get_or topped i 0
-  below_part i l = get_or-append (take start topped) (ys ++ post_of start (end - start) topped) 0 i (omega (arith, long_below)) ∙ get_or-take start topped i 0 l
+  below_part i l = search (rules, places)
 
   module _ (f : Filled part ys b e k ws) where
     in_whole : (i j : ℕ) → j < end - start → i ≡ start + j → get_or whole i 0 ≡ get_or ys j 0
-    in_whole i j l q =
-        let p : i ≡ length (take start topped) + j = omega (arith, long_below) in
-        let n : j < length ys = omega (arith, f.long, long_part) in
-        ap (λ (o : ℕ). get_or whole o 0) p ∙ get_or-append-add (take start topped) (ys ++ post_of start (end - start) topped) j 0 ∙ get_or-append ys (post_of start (end - start) topped) 0 j n
+    in_whole i j l q = let h : length ys ≡ end - start = f.long ∙ mid_len start end topped (omega (arith, long_topped, g.room, g.deep)) in rw q (search (rules, places))
 
     pub entered : Entered w whole e h held d k b ws
     entered =
         let r : work_words ≤ length w = g.room in
         let dd : d ≤ most_height = g.deep in
         let lt = long_topped in
-        let lp = long_part in
+        let lp : length part ≡ end - start = mid_len start end topped (omega (arith, long_topped, g.room, g.deep)) in
         let size : cell whole (h + 1) size_word ≡ get_or ys size_word 0 = in_whole (start + size_word) size_word (omega arith) (omega arith) in
         record {
           long = same_len_mid start (end - start) topped ys f.long ∙ long_topped;
           kept =
               (let q : end + (work_words - end) ≡ work_words = omega arith in
-              ap (λ (n : ℕ). drop n whole) (sym q) ∙ sym (drop-drop (work_words - end) end whole) ∙ ap (drop (work_words - end)) (drop_put start end topped ys (omega arith) (omega arith) (f.long ∙ long_part))
+              ap (λ (n : ℕ). drop n whole) (sym q) ∙ sym (drop-drop (work_words - end) end whole) ∙ ap (drop (work_words - end)) (drop_put start end topped ys (omega arith) (omega arith) (f.long ∙ lp))
               ∙ drop-drop (work_words - end) end topped ∙ ap (λ (n : ℕ). drop n topped) q ∙ drop-set-lt work_words w (values_from + d) held (omega arith));
           below = λ i l. below_part i (omega arith) ∙ get_or-set_other w (values_from + d) i held 0 (λ q. omega arith);
           left = λ i l. in_whole (values_from + i) (values_from + i - start) (omega arith) (omega arith) ∙ f.rest (values_from + i - start) (omega arith) ∙ in_part (values_from + i) (values_from + i - start) (omega arith) (omega arith);

@@ -1,75 +1,42 @@
 -- A level's part is filled: values, entrances, then the four words before them. Assumes nothing.
 use mathlib.Core.Path.{◌≡◌, refl, sym, ap, ◌∙◌, subst}
-use mathlib.Core.Bool.{Bool, true, false}
 use mathlib.Core.List.{List, [], ◌∷◌, ◌++◌, append-nil, append_assoc}
 use Prim.Native.Nat.{ℕ, suc, ◌+◌, ◌-◌, ◌≤◌, ◌<◌}
-use native.Mathlib.Nat.{add-zero, sub_self}
+use native.Mathlib.Nat.{sub_self}
 use native.Mathlib.Omega.{arith}
-use lib.Dec.{eqb}
 use lib.ListN.{length, get_or, set, length-set}
 use lib.Seq.{get_or-set_same, get_or-set_other}
-use borrow.Author.Tests.{eqb-true, eqb-false}
 use Rattle.meaning.specs.Numbers.{most_arguments}
 use Rattle.layout.specs.Decoding.{row, leading}
 use Rattle.layout.specs.Layout.{level_words, return_word, link_word, strict_word, size_word, slot_words}
 use Rattle.layout.proofs.Rows.{row_same, row_snoc, leading_none, leading_more}
 use Rattle.frames.specs.Frames.{Moved, Copied, Filled}
 
--- values
-pub moved_none : (r : List ℕ) (k : ℕ) → Moved r r k 0
-moved_none r k = record { long = refl; taken = λ i h. absurd (omega arith); rest = λ i h. refl }
-
-module _ (r v : List ℕ) (k n : ℕ) (few : k ≤ most_arguments) (room : level_words + k ≤ length r) (more : n < k) (m : Moved r v k n) where
-  abbrev word_to_move : ℕ
-  word_to_move = get_or v (length r - k + n) 0
-
-  abbrev moved : List ℕ
-  moved = set v (slot_words + n) word_to_move
-
-  taken_by : (i : ℕ) (b : Bool) → eqb i n ≡ b → i < n + 1 → get_or moved (slot_words + i) 0 ≡ get_or r (length r - k + i) 0
-  taken_by i true e h =
-      let s : i ≡ n = eqb-true i n e in
-      let l : slot_words + n < length v = omega (arith, m.long) in
-      rw s (get_or-set_same v (slot_words + n) word_to_move 0 l ∙ m.rest (length r - k + n) (omega arith))
-  taken_by i false e h = get_or-set_other v (slot_words + n) (slot_words + i) word_to_move 0 (λ q. eqb-false i n e (omega arith)) ∙ m.taken i (omega (arith, eqb-false i n e))
-
-  pub moved_more : Moved r moved k (n + 1)
-  moved_more = record {
-    long = length-set v (slot_words + n) word_to_move ∙ m.long;
-    taken = λ i h. taken_by i (eqb i n) refl h;
-    rest = λ i h. get_or-set_other v (slot_words + n) i word_to_move 0 (λ q. omega arith) ∙ m.rest i h;
-  }
-
-pub moved_all : (r v : List ℕ) (k n : ℕ) → Moved r v k n → n ≤ k → k ≤ n → Moved r v k k
-moved_all r v k n m a b = let e : n ≡ k = omega arith in subst (λ (j : ℕ). Moved r v k j) e m
-
 -- entrances: what is still to come where n slots are filled
-abbrev pub yet : List ℕ → ℕ → ℕ → ℕ → List ℕ
-yet c from k n = leading (row c (from + (n - k)) (most_arguments - n))
+abbrev pub yet : List ℕ → ℕ → ℕ → List ℕ
+yet c k n = leading (row c (n - k) (most_arguments - n))
 
-pub copied_none : (r : List ℕ) (k : ℕ) (c : List ℕ) (from : ℕ) → k ≤ most_arguments → Copied r r k k c from (yet c from k k)
+pub copied_none : (r : List ℕ) (k : ℕ) (c : List ℕ) → k ≤ most_arguments → Copied r r k k c (yet c k k)
 unfolding row
-copied_none r k c from l = record {
+copied_none r k c l = record {
   long = refl;
   least = omega arith;
   most = l;
-  waiting = rw (sub_self k, add-zero from);
+  waiting = rw (sub_self k);
   low = λ i h. refl;
   rest = λ i h. refl;
 }
 
-pub copied_stop : (r v : List ℕ) (k n : ℕ) (c : List ℕ) (from : ℕ) → Copied r v k n c from (yet c from k n) → get_or c (from + (n - k)) 0 ≡ 0 → Copied r v k n c from []
-copied_stop r v k n c from m e = subst (λ (l : List ℕ). Copied r v k n c from l) (leading_none c (from + (n - k)) (most_arguments - n) e) m
+pub copied_stop : (r v : List ℕ) (k n : ℕ) (c : List ℕ) → Copied r v k n c (yet c k n) → get_or c (n - k) 0 ≡ 0 → Copied r v k n c []
+copied_stop r v k n c m e = subst (λ (l : List ℕ). Copied r v k n c l) (leading_none c (n - k) (most_arguments - n) e) m
 
-pub copied_all : (r v : List ℕ) (k n : ℕ) (c : List ℕ) (from : ℕ) → Copied r v k n c from (yet c from k n) → most_arguments ≤ n → Copied r v k n c from []
+pub copied_all : (r v : List ℕ) (k n : ℕ) (c : List ℕ) → most_arguments ≡ n → Copied r v k n c (yet c k n) → Copied r v k most_arguments c []
 unfolding row leading
-copied_all r v k n c from m h =
-    let e : most_arguments - n ≡ 0 = omega arith in
-    subst (λ (j : ℕ). Copied r v k n c from (leading (row c (from + (n - k)) j))) e m
+copied_all r v k n c e m = rw (← e) at m
 
-module _ (r v : List ℕ) (k n : ℕ) (c : List ℕ) (from : ℕ) (room : level_words ≤ length r) (more : n < most_arguments) (m : Copied r v k n c from (yet c from k n)) (some_word : get_or c (from + (n - k)) 0 ≡ 0 → ⊥) where
+module _ (r v : List ℕ) (k n : ℕ) (c : List ℕ) (room : level_words ≤ length r) (more : n < most_arguments) (m : Copied r v k n c (yet c k n)) (some_word : get_or c (n - k) 0 ≡ 0 → ⊥) where
   abbrev word : ℕ
-  word = get_or c (from + (n - k)) 0
+  word = get_or c (n - k) 0
 
   abbrev copied : List ℕ
   copied = set v (slot_words + n) word
@@ -83,27 +50,27 @@ module _ (r v : List ℕ) (k n : ℕ) (c : List ℕ) (from : ℕ) (room : level_
       let s : row copied (slot_words + k) (n - k) ≡ row v (slot_words + k) (n - k) = row_same v copied (slot_words + k) (slot_words + k) (n - k) (λ i h. get_or-set_other v (slot_words + n) (slot_words + k + i) word 0 (λ q. omega arith)) in
       rw (e, row_snoc copied (slot_words + k) (n - k), s, f, get_or-set_same v (slot_words + n) word 0 g)
 
-  yet_more : yet c from k n ≡ word ∷ yet c from k (n + 1)
+  yet_more : yet c k n ≡ word ∷ yet c k (n + 1)
   yet_more =
       let l : k ≤ n = m.least in
       let e : most_arguments - n ≡ suc (most_arguments - (n + 1)) = omega arith in
-      let f : suc (from + (n - k)) ≡ from + (n + 1 - k) = omega arith in
-      leading_more c (from + (n - k)) (most_arguments - n) (most_arguments - (n + 1)) e some_word ∙ ap (λ (j : ℕ). word ∷ leading (row c j (most_arguments - (n + 1)))) f
+      let f : suc (n - k) ≡ n + 1 - k = omega arith in
+      leading_more c (n - k) (most_arguments - n) (most_arguments - (n + 1)) e some_word ∙ ap (λ (j : ℕ). word ∷ leading (row c j (most_arguments - (n + 1)))) f
 
-  pub copied_more : Copied r copied k (n + 1) c from (yet c from k (n + 1))
+  pub copied_more : Copied r copied k (n + 1) c (yet c k (n + 1))
   copied_more = record {
     long = length-set v (slot_words + n) word ∙ m.long;
     least = omega (arith, m.least);
     most = omega arith;
     waiting =
-        ap (λ (l : List ℕ). l ++ yet c from k (n + 1)) row_more ∙ append_assoc (row v (slot_words + k) (n - k)) (word ∷ []) (yet c from k (n + 1))
+        ap (λ (l : List ℕ). l ++ yet c k (n + 1)) row_more ∙ append_assoc (row v (slot_words + k) (n - k)) (word ∷ []) (yet c k (n + 1))
         ∙ ap (λ (l : List ℕ). row v (slot_words + k) (n - k) ++ l) (sym yet_more) ∙ m.waiting;
     low = λ i h. get_or-set_other v (slot_words + n) i word 0 (λ q. omega (arith, m.least)) ∙ m.low i h;
     rest = λ i h. get_or-set_other v (slot_words + n) i word 0 (λ q. omega arith) ∙ m.rest i h;
   }
 
 -- the four words before the slots
-module _ (r u v : List ℕ) (k n b link : ℕ) (c : List ℕ) (from : ℕ) (few : k ≤ most_arguments) (room : level_words + k ≤ length r) (m : Moved r u k k) (p : Copied u v k n c from []) where
+module _ (r u v : List ℕ) (k n b link : ℕ) (c : List ℕ) (few : k ≤ most_arguments) (room : level_words + k ≤ length r) (m : Moved r u k) (p : Copied u v k n c []) where
   abbrev v1 : List ℕ
   v1 = set v return_word b
 
@@ -121,7 +88,7 @@ module _ (r u v : List ℕ) (k n b link : ℕ) (c : List ℕ) (from : ℕ) (few 
       get_or-set_other v3 size_word i n 0 (λ q. omega arith) ∙ get_or-set_other v2 strict_word i k 0 (λ q. omega arith) ∙ get_or-set_other v1 link_word i link 0 (λ q. omega arith)
       ∙ get_or-set_other v return_word i b 0 (λ q. omega arith)
 
-  pub filled : Filled r full b link k (leading (row c from (most_arguments - k)))
+  pub filled : Filled r full b link k (leading (row c 0 (most_arguments - k)))
   filled =
       let l : level_words ≤ length v = omega (arith, p.long, m.long) in
       let at_return : get_or full return_word 0 ≡ b =

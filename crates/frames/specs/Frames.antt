@@ -5,18 +5,18 @@ use Rattle.layout.specs.Decoding.{row, leading}
 use Rattle.layout.specs.Layout.{level_words, return_word, link_word, strict_word, size_word, slot_words, values_from, cell}
 use Rattle.layout.proofs.Levels.{SameLevels}
 
--- The first n of the last k words of the part r have come to its slots.
-pub record Moved (r v : List ℕ) (k n : ℕ) : Type 0 where
+-- The last k words of the part r have come to its slots.
+pub record Moved (r v : List ℕ) (k : ℕ) : Type 0 where
   pub long : length v ≡ length r
-  pub taken : (i : ℕ) → i < n → get_or v (slot_words + i) 0 ≡ get_or r (length r - k + i) 0
+  pub taken : (i : ℕ) → i < k → get_or v (slot_words + i) 0 ≡ get_or r (length r - k + i) 0
   pub rest : (i : ℕ) → level_words ≤ i → get_or v i 0 ≡ get_or r i 0
 
--- The words of c from `from` on, up to a 0, have come to the slots from the k-th on; there are now n slots; `left` is still to come.
-pub record Copied (r v : List ℕ) (k n : ℕ) (c : List ℕ) (from : ℕ) (left : List ℕ) : Type 0 where
+-- The words of c up to a 0 have come to the slots from the k-th on; there are now n slots; `left` is still to come.
+pub record Copied (r v : List ℕ) (k n : ℕ) (c left : List ℕ) : Type 0 where
   pub long : length v ≡ length r
   pub least : k ≤ n
   pub most : n ≤ most_arguments
-  pub waiting : row v (slot_words + k) (n - k) ++ left ≡ leading (row c from (most_arguments - k))
+  pub waiting : row v (slot_words + k) (n - k) ++ left ≡ leading (row c 0 (most_arguments - k))
   pub low : (i : ℕ) → i < slot_words + k → get_or v i 0 ≡ get_or r i 0
   pub rest : (i : ℕ) → level_words ≤ i → get_or v i 0 ≡ get_or r i 0
 

@@ -1,58 +1,76 @@
 -- Laws of heads: one after the other, that they are the program's, and how they are copied over a slice. Assumes nothing.
-use Prim.Native.Nat.{ℕ, zero, suc, ◌+◌, ◌-◌, ◌<◌, ◌≤◌}
-use Rattle.accepted.specs.Accepted.{Sound, Every}
-use Rattle.heads.specs.Heads.{head, no_head, heads_list, heads_by, Small}
-use Rattle.meaning.specs.Answers.{sort_number, heads_from, heads_of}
+use Prim.Native.Nat.{ℕ, zero, suc, ◌+◌, ◌<◌, ◌≤◌, min}
+use Rattle.heads.specs.Heads.{head, heads_list}
+use Rattle.meaning.specs.Answers.{heads_from, heads_of}
 use Rattle.meaning.specs.Code.{size, initial}
-use Rattle.meaning.specs.Terms.{Function, Program}
+use Rattle.meaning.specs.Terms.{Program}
 use Rattle.meaning.specs.declared.Head.{Head}
-use Rattle.table.proofs.Signatures.{signature_count, signature_result, signature_strict}
-use Rattle.table.specs.Table.{signature, signatures, addresses, addresses_from, Begins}
-use lib.ListN.{length, get_or, take, drop, set, replicate, length-append, length-map, length-drop}
-use lib.Seq.{set_at, take_at, drop-cons, take-suc, append_snoc, length-take-le}
+use Rattle.table.proofs.Symbols.{sort_numbered}
+use Rattle.table.specs.Table.{signatures, addresses, addresses_from, Begins}
+use Rattle.table.specs.declared.Signature.{Signature}
+use lib.ListN.{length, get_or, take, drop, set, length-map}
+use lib.Seq.{set_at, take_at, take-length, drop-cons}
 use mathlib.Core.List.{List, [], ◌∷◌, ◌++◌, append_assoc}
 use mathlib.Core.Path.{◌≡◌, refl, ap, sym, ◌∙◌}
-use native.Mathlib.Nat.{le_of_lt}
+use Rattle.std.specs.List.{zip, enumerate_from}
+use Rattle.std.proofs.lemmas.List.FromFn.{length-enumerate_from, get_or-enumerate_from}
+use Rattle.std.proofs.lemmas.Slice.Zip.{length-zip, get_or-zip}
 use native.Mathlib.Numerals.{add-one}
 use native.Mathlib.Omega.{arith}
 
-list_length : (S B : List ℕ) (n : ℕ) → n ≤ length S → n ≤ length B → length (heads_list (take n S) (take n B)) ≡ n
+list_length : (S : List Signature) (B : List ℕ) (n : ℕ) → n ≤ length S → n ≤ length B → length (heads_list (take n S) (take n B)) ≡ n
 unfolding heads_list
 list_length S B zero h k = refl
 list_length [] B (suc n) h k = absurd (omega (arith, h))
 list_length (s ∷ S) [] (suc n) h k = absurd (omega (arith, k))
 list_length (s ∷ S) (b ∷ B) (suc n) h k = ap suc (list_length S B n (omega (arith, h)) (omega (arith, k)))
 
-list_more : (S B : List ℕ) (n : ℕ) → n < length S → n < length B → heads_list (take (suc n) S) (take (suc n) B) ≡ heads_list (take n S) (take n B) ++ (head (get_or S n 0) (get_or B n 0) ∷ [])
+-- One head more; past the lists stand any s₀ and b₀.
+list_more : (S : List Signature) (B : List ℕ) (n : ℕ) (s₀ : Signature) (b₀ : ℕ) → n < length S → n < length B
+    → heads_list (take (suc n) S) (take (suc n) B) ≡ heads_list (take n S) (take n B) ++ (head (get_or S n s₀) (get_or B n b₀) ∷ [])
 unfolding heads_list
-list_more [] B n h k = absurd (omega (arith, h))
-list_more (s ∷ S) [] n h k = absurd (omega (arith, k))
-list_more (s ∷ S) (b ∷ B) zero h k = refl
-list_more (s ∷ S) (b ∷ B) (suc n) h k = ap (λ (l : List Head). head s b ∷ l) (list_more S B n (omega (arith, h)) (omega (arith, k)))
+list_more [] B n s₀ b₀ h k = absurd (omega (arith, h))
+list_more (s ∷ S) [] n s₀ b₀ h k = absurd (omega (arith, k))
+list_more (s ∷ S) (b ∷ B) zero s₀ b₀ h k = refl
+list_more (s ∷ S) (b ∷ B) (suc n) s₀ b₀ h k = ap (λ (l : List Head). head s b ∷ l) (list_more S B n s₀ b₀ (omega (arith, h)) (omega (arith, k)))
 
-left_one : (i : ℕ) → i < 64 → replicate (64 - i) no_head ≡ no_head ∷ replicate (64 - suc i) no_head
-left_one i h = let e : 64 - i ≡ suc (64 - suc i) = omega arith in rw e
+list_whole : (S : List Signature) (B : List ℕ) → length S ≤ length B → heads_list S (take (length S) B) ≡ heads_list S B
+unfolding heads_list
+list_whole [] B h = refl
+list_whole (s ∷ S) [] h = refl
+list_whole (s ∷ S) (b ∷ B) h = ap (λ (l : List Head). head s b ∷ l) (list_whole S B (omega (arith, h)))
 
-pub none_yet : (S B : List ℕ) → replicate 64 no_head ≡ heads_by S B 0
-unfolding heads_by heads_list
-none_yet S B = refl
+-- The first i heads over a list D.
+abbrev pub put : List Signature → List ℕ → List Head → ℕ → List Head
+put S B D i = heads_list (take i S) (take i B) ++ drop i D
 
-pub one_more : (S B : List ℕ) (i : ℕ) (x : Head) → i < 64 → i < length S → i < length B → x ≡ head (get_or S i 0) (get_or B i 0) → set (heads_by S B i) i x ≡ heads_by S B (i + 1)
-unfolding heads_by
-one_more S B i x o h k e =
-    rw (left_one i o, add-one i, list_more S B i h k, e)
-    (set_at (heads_list (take i S) (take i B)) no_head (replicate (64 - suc i) no_head) (head (get_or S i 0) (get_or B i 0)) i (list_length S B i (omega arith) (omega arith))
-    ∙ sym (append_assoc (heads_list (take i S) (take i B)) (head (get_or S i 0) (get_or B i 0) ∷ []) (replicate (64 - suc i) no_head)))
+-- One more of them, as a turn of the loop finds it.
+pub one_more : (S : List Signature) (B : List ℕ) (D : List Head) (i : ℕ) (x : ℕ × (Signature × ℕ)) (h : Head) → length S ≤ length D
+    → (i < length (enumerate_from 0 (zip S B))) × (x ≡ get_or (enumerate_from 0 (zip S B)) i x) → h ≡ head x.1.0 x.1.1 → set (put S B D i) x.0 h ≡ put S B D (i + 1)
+one_more S B D i x h long (k, e) q =
+    let both : length (zip S B) ≡ min (length S) (length B) = length-zip S B in
+    let within : i < length (zip S B) = omega (arith, k, length-enumerate_from 0 (zip S B)) in
+    let s : i < length S = omega arith in
+    let b : i < length B = omega arith in
+    let here : x ≡ (0 + i, (get_or S i x.1.0, get_or B i x.1.1)) = e ∙ get_or-enumerate_from 0 (zip S B) i x within ∙ ap (λ y. (0 + i, y)) (get_or-zip S B i x.1 s b) in
+    let d : i < length D = omega arith in
+    let at : x.0 ≡ i = ap (λ y. y.0) here ∙ omega arith in
+    let of : h ≡ head (get_or S i x.1.0) (get_or B i x.1.1) = q ∙ ap (λ y. head y.1.0 y.1.1) here in
+    rw (at, of, add-one i, list_more S B i x.1.0 x.1.1 s b, drop-cons D i (head (get_or S i x.1.0) (get_or B i x.1.1)))
+    (set_at (heads_list (take i S) (take i B)) _ (drop (suc i) D) (head (get_or S i x.1.0) (get_or B i x.1.1)) i (list_length S B i (omega arith) (omega arith))
+    ∙ sym (append_assoc (heads_list (take i S) (take i B)) (head (get_or S i x.1.0) (get_or B i x.1.1) ∷ []) (drop (suc i) D)))
 
--- A function's head.
-head_is : (F : Function) (a : ℕ) → length F.sorts ≤ 8 → head (signature F.sorts F.strict F.result) a ≡ record { args = length F.sorts; strict = F.strict; result = sort_number F.result; body = a }
-unfolding head
-head_is F a h = rw (signature_count F.sorts F.strict F.result h, signature_result F.sorts F.strict F.result h, signature_strict F.sorts F.strict F.result h)
+-- All of them.
+pub all_put : (S : List Signature) (B : List ℕ) (D : List Head) (i : ℕ) → length S ≤ length B → i ≡ length (enumerate_from 0 (zip S B)) → put S B D i ≡ heads_list S B ++ drop (length S) D
+all_put S B D i h e =
+    let all : i ≡ length S = omega (arith, length-enumerate_from 0 (zip S B), length-zip S B) in
+    rw (all, take-length S, list_whole S B h)
 
-heads_are : (P : Program) (a : ℕ) → Small P → heads_list (signatures P) (addresses_from a P) ≡ heads_from a P
-unfolding heads_list signatures addresses_from heads_from Small
-heads_are [] a s = refl
-heads_are (F ∷ P) a s = rw (head_is F a s.0) (ap (λ (l : List Head). record { args = length F.sorts; strict = F.strict; result = sort_number F.result; body = a } ∷ l) (heads_are P (a + size F.body) s.1))
+-- The heads of a program's functions are meaning's.
+heads_are : (P : Program) (a : ℕ) (rest : List ℕ) → heads_list (signatures P) (addresses_from a P ++ rest) ≡ heads_from a P
+unfolding heads_list head signatures addresses_from heads_from
+heads_are [] a rest = refl
+heads_are (F ∷ P) a rest = rw (sort_numbered F.result, heads_are P (a + size F.body) rest) refl
 
 pub addresses_length : (P : Program) (a : ℕ) → length (addresses_from a P) ≡ length P
 unfolding addresses_from
@@ -63,12 +81,11 @@ signatures_length : (P : Program) → length (signatures P) ≡ length P
 unfolding signatures
 signatures_length P = length-map P _
 
-pub heads_meant : (S B : List ℕ) (n : ℕ) (P : Program) → Small P → n ≡ length P → Begins S (signatures P) → Begins B (addresses P) → heads_by S B n ≡ heads_of P ++ replicate (64 - n) no_head
-unfolding heads_by heads_of addresses
-heads_meant S B n P s e x y =
+pub heads_meant : (S : List Signature) (B : List ℕ) (n : ℕ) (P : Program) → n ≡ length P → Begins S (signatures P) → Begins B (addresses P) → heads_list (take n S) B ≡ heads_of P
+unfolding heads_of addresses
+heads_meant S B n P e x y =
     let u : take n S ≡ signatures P = ap (take n) x.whole ∙ take_at (signatures P) x.rest n (signatures_length P ∙ sym e) in
-    let v : take n B ≡ addresses_from (size (initial P)) P = ap (take n) y.whole ∙ take_at (addresses_from (size (initial P)) P) y.rest n (addresses_length P (size (initial P)) ∙ sym e) in
-    rw (u, v, heads_are P (size (initial P)) s)
+    rw (u, y.whole, heads_are P (size (initial P)) y.rest)
 
 heads_from_length : (P : Program) (a : ℕ) → length (heads_from a P) ≡ length P
 unfolding heads_from
@@ -78,23 +95,3 @@ heads_from_length (F ∷ P) a = ap suc (heads_from_length P (a + size F.body))
 pub heads_length : (P : Program) → length (heads_of P) ≡ length P
 unfolding heads_of
 heads_length P = heads_from_length P (size (initial P))
-
--- Every accepted program is small.
-pub accepted_small : (P Q : Program) → Every (Sound P) Q → Small Q
-unfolding Every Small
-accepted_small P [] h = tt
-accepted_small P (F ∷ Q) h = (h.0.few_arguments, accepted_small P Q h.1)
-
--- A list that is copied over another from the front, element by element.
-abbrev pub over : {A : Type 0} → List A → List A → ℕ → List A
-over s d i = take i s ++ drop i d
-
-pub over_more : {A : Type 0} (s d : List A) (z : A) (i : ℕ) → i < length d → i < length s → set (over s d i) i (get_or s i z) ≡ over s d (suc i)
-over_more {A} s d z i h k =
-    rw (drop-cons d i z)
-    (set_at (take i s) (get_or d i z) (drop (suc i) d) (get_or s i z) i (length-take-le i s (le_of_lt k))
-    ∙ sym (append_snoc (take i s) (get_or s i z) (drop (suc i) d))
-    ∙ ap (λ (l : List A). l ++ drop (suc i) d) (sym (take-suc s i z k)))
-
-pub length_over : {A : Type 0} (s d : List A) (i : ℕ) → i ≤ length d → i ≤ length s → length (over s d i) ≡ length d
-length_over s d i h k = omega (arith, length-append (take i s) (drop i d), length-take-le i s k, length-drop i d)

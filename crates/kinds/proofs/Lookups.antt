@@ -1,5 +1,6 @@
--- EVAL over the words, by the tests that the code makes: x is the position's word, p the position, e the level whose frame is looked at. Assumes nothing.
-use mathlib.Core.Path.{◌≡◌, refl, sym, ◌∙◌}
+-- EVAL over the words, by the tests that the code makes: p is the position, e the level whose frame is looked at. Assumes nothing.
+use mathlib.Core.Path.{◌≡◌, ◌∙◌}
+use mathlib.Core.Logic.{◌⊎◌, inl, inr}
 use mathlib.Core.List.{List, ◌∷◌}
 use Prim.Native.Nat.{ℕ, zero, suc, ◌+◌, ◌-◌, ◌≤◌, ◌<◌}
 use native.Mathlib.Omega.{arith}
@@ -10,37 +11,32 @@ use Rattle.layout.specs.Layout.{link_word, strict_word, size_word, slot_words, c
 use Rattle.layout.proofs.Slots.{slot_none, slot_past}
 use Rattle.layout.proofs.Steps.{look_value, look_waits, look_none, look_nowhere}
 
-module _ (w : List ℕ) (b : ℕ) (rs : List Place) (ds : List ℕ) (h e x p : ℕ) (px : p ≡ x) where
+module _ (w : List ℕ) (b : ℕ) (rs : List Place) (ds : List ℕ) (h e p : ℕ) (l : e ≤ h) where
   abbrev looks : Next
-  looks = obey (an_eval x b) rs ds (environments w e h)
+  looks = obey (an_eval p b) rs ds (environments w e h)
 
-  pub looks_no_position : p ≡ 0 → looks ≡ no_step
+  looks_up : (p ≡ 0 → ⊥) → looks ≡ look_up (p - 1) b rs ds (environments w e h)
   unfolding obey an_eval
-  looks_no_position q = let z : x ≡ 0 = sym px ∙ q in rw z
+  looks_up z = by p z
+    where
+      by : (p : ℕ) → (p ≡ 0 → ⊥) → obey (an_eval p b) rs ds (environments w e h) ≡ look_up (p - 1) b rs ds (environments w e h)
+      by zero n = absurd (n (omega arith))
+      by (suc i) n = let f : suc i - 1 ≡ i = omega arith in rw f
 
-  module _ (z : p ≡ 0 → ⊥) where
-    looks_up : looks ≡ look_up (p - 1) b rs ds (environments w e h)
-    unfolding obey an_eval
-    looks_up = by x p px z
-      where
-        by : (x p : ℕ) → p ≡ x → (p ≡ 0 → ⊥) → obey (an_eval x b) rs ds (environments w e h) ≡ look_up (p - 1) b rs ds (environments w e h)
-        by x zero q n = absurd (n refl)
-        by x (suc i) q n = let f : suc i - 1 ≡ i = omega arith in rw (← q, f)
+  -- no position, no frame, or no such position in any frame
+  pub looks_nowhere : (p ≡ 0) ⊎ (((p ≡ 0 → ⊥) × (e ≡ 0)) ⊎ ((p ≡ 0 → ⊥) × (e ≡ 0 → ⊥) × (most_arguments < p))) → looks ≡ no_step
+  unfolding obey an_eval
+  looks_nowhere (inl q) = rw q
+  looks_nowhere (inr (inl z)) = looks_up z.0 ∙ look_nowhere w (p - 1) b rs ds h e z.1
+  looks_nowhere (inr (inr z)) = looks_up z.0 ∙ look_none w (p - 1) b rs ds h e (omega arith) l (slot_past w e (p - 1) (omega arith))
 
-    pub looks_nowhere : e ≡ 0 → looks ≡ no_step
-    looks_nowhere q = looks_up ∙ look_nowhere w (p - 1) b rs ds h e q
+  module _ (z : p ≡ 0 → ⊥) (y : e ≡ 0 → ⊥) (m : p ≤ most_arguments) where
+    pub looks_value : p ≤ cell w e strict_word → looks ≡ next (state (at b) rs (cell w e (slot_words + (p - 1)) ∷ ds) (environments w e h))
+    looks_value s = looks_up z ∙ look_value w (p - 1) b rs ds h e (omega arith) l (omega arith) (omega arith)
 
-    module _ (y : e ≡ 0 → ⊥) (l : e ≤ h) where
-      pub looks_past : most_arguments < p → looks ≡ no_step
-      looks_past m = looks_up ∙ look_none w (p - 1) b rs ds h e (omega arith) l (slot_past w e (p - 1) (omega arith))
+    module _ (s : cell w e strict_word < p) where
+      pub looks_outside : cell w e size_word < p → looks ≡ no_step
+      looks_outside t = looks_up z ∙ look_none w (p - 1) b rs ds h e (omega arith) l (slot_none w e (p - 1) (omega arith) (omega arith))
 
-      module _ (m : p ≤ most_arguments) (k : ℕ) (ek : k ≡ cell w e strict_word) where
-        pub looks_value : p ≤ k → looks ≡ next (state (at b) rs (cell w e (slot_words + (p - 1)) ∷ ds) (environments w e h))
-        looks_value s = looks_up ∙ look_value w (p - 1) b rs ds h e (omega arith) l (omega arith) (omega arith)
-
-        module _ (s : k < p) (n : ℕ) (en : n ≡ cell w e size_word) where
-          pub looks_outside : n < p → looks ≡ no_step
-          looks_outside t = looks_up ∙ look_none w (p - 1) b rs ds h e (omega arith) l (slot_none w e (p - 1) (omega arith) (omega arith))
-
-          pub looks_waiting : p ≤ n → cell w e link_word < e → looks ≡ next (state (at (cell w e (slot_words + (p - 1)))) (at b ∷ rs) ds (chain w h (cell w e link_word) ∷ environments w e h))
-          looks_waiting t q = looks_up ∙ look_waits w (p - 1) b rs ds h e (omega arith) l q (omega arith) (omega arith) (omega arith)
+      pub looks_waiting : p ≤ cell w e size_word → cell w e link_word < e → looks ≡ next (state (at (cell w e (slot_words + (p - 1)))) (at b ∷ rs) ds (chain w h (cell w e link_word) ∷ environments w e h))
+      looks_waiting t q = looks_up z ∙ look_waits w (p - 1) b rs ds h e (omega arith) l q (omega arith) (omega arith) (omega arith)

@@ -1,15 +1,29 @@
-// One step of the machine: registers and a tally by value, one function for each kind of instruction, and the step that goes by the kind.
-// Each function's contract says what it comes to against the machine's own clause for that instruction, for any code words. Assumes nothing.
+// One step of the machine: registers and a tally by value, one method for each kind of instruction, and the step that goes by the kind.
+// Each method's contract says what it comes to against the machine's own clause for that instruction, for any code words. Assumes nothing.
 #![tactic(auto)]
 
-ghost use Rattle.std.specs.Prelude.{◌≡◌, ◌+◌, ◌≤◌, length, get_or};
-ghost use Rattle.std.proofs.Math.Option.{some};
-ghost use Rattle.meaning.specs.Numbers.{instruction_words};
+ghost use Rattle.std.specs.Prelude.{◌≡◌, ◌≤◌, get_or, MatchOption};
+ghost use Rattle.std.proofs.Math.Option.{none, some};
 ghost use Rattle.meaning.specs.Code.{RET};
-ghost use Rattle.layout.specs.Decoding.{operation_word, eval_at, exec_at, select_at, call_at, decode};
-ghost use Rattle.kinds.specs.Met.{none_done, counted, Few, number_at, ending, Running, pushing, opening, Met, Obeyed};
+ghost use Rattle.layout.specs.Decoding.{operation_word, eval_at, exec_at, select_at, call_at, of_kind, decode};
+ghost use Rattle.kinds.specs.Met.{none_done, counted, Few, Running, pushing, opening, Met, Obeyed};
 
-use word::Worked;
+use frames::Caller;
+use meaning::Number;
+use word::Operation;
+
+// The code words of one instruction.
+type Instruction = [u32; meaning::INSTRUCTION_WORDS];
+
+// The words at this address; none where the code ends before they do. (`as_chunks` over the whole code was tried: a step is slower by 18 to 32 percent.)
+fn instruction_at(code: &[u32], address: u32) -> Option<&Instruction>
+    ensures { MatchOption result (decode code.now address ≡ none) (λ words. decode code.now address ≡ of_kind (get_or words.now 0 0) words.now 0) }
+{
+    let base = meaning::INSTRUCTION_WORDS * address as usize;
+    code.get(base..base + meaning::INSTRUCTION_WORDS)?
+        .try_into()
+        .ok()
+}
 
 // Steps and rewrites of a run, carried from step to step.
 #[derive(Clone, Copy)]
@@ -35,7 +49,7 @@ impl Tally {
     {
         Self {
             steps: self.steps + 1,
-            rewrites: self.rewrites,
+            ..self
         }
     }
 
@@ -45,17 +59,16 @@ impl Tally {
         ensures { result ≡ counted 1 self }
     {
         Self {
-            steps: self.steps + 1,
             rewrites: self.rewrites + 1,
+            ..self.step()
         }
     }
 }
 
-// What the machine holds beside the work words. `number` is what a run that ends here answers: FUEL while it can go on.
-// `held` is the top of the data stack, `env` the level whose frame is first in the environment, `high` and `deep` are the heights of return and data stack.
+// What the machine holds beside the work words: the top of the data stack, the address, the level whose frame is first in the environment, and the
+// heights of return and data stack. At height 0 it has stopped.
 #[derive(Clone, Copy)]
 pub struct Registers {
-    pub number: u32,
     pub held: u32,
     pub at: u32,
     pub env: usize,
@@ -64,265 +77,205 @@ pub struct Registers {
     pub tally: Tally,
 }
 
+// A step that is not made says why, and leaves the work words as they were: DEEP, STUCK or ZERO. `Running` stands in each contract and in no type: it joins
+// registers, which go by value so that they stay in the processor's, with work words that are lent.
 impl Registers {
-    // No step is made: all stays but the number.
-    fn ended(self, number: u32) -> Self
-        ensures { result ≡ ending self number }
+    // A value more, and on to what follows.
+    fn push(self, v: u32, after: u32, tally: Tally, work: &mut [u32]) -> Result<Self, Number>
+        requires { Running work.old self }
+        ensures { Met tally (pushing work.old self v after) result work.old work.new }
     {
-        let tally = self.tally;
-        Self {
-            number,
-            held: self.held,
-            at: self.at,
+        if meaning::MOST_HEIGHT <= self.deep {
+            return Err(Number::Deep);
+        }
+        work[layout::VALUES + self.deep] = self.held;
+        Ok(Self {
+            held: v,
+            at: after,
+            deep: self.deep + 1,
+            tally,
+            ..self
+        })
+    }
+
+    // A level for the term of a waiting argument: its environment is the one below the frame that holds the argument.
+    fn open_level(self, entrance: u32, after: u32, work: &mut [u32]) -> Result<Self, Number>
+        requires { Running work.old self × (1 ≤ self.env) }
+        ensures { Met (counted 0 self.tally) (opening work.old self entrance after) result work.old work.new }
+    {
+        if meaning::MOST_HEIGHT <= self.high {
+            return Err(Number::Deep);
+        }
+        let below = work[layout::LEVEL_WORDS * self.env + layout::LINK] as usize;
+        let level = layout::LEVEL_WORDS * (self.high + 1);
+        work[level + layout::RETURN] = after;
+        work[level + layout::LINK] = self.env as u32;
+        Ok(Self {
+            at: entrance,
+            env: below,
+            high: self.high + 1,
+            tally: self.tally.step(),
+            ..self
+        })
+    }
+
+    // EVAL: the value of an argument, or a level for its term.
+    fn look_up(self, instruction: &Instruction, work: &mut [u32]) -> Result<Self, Number>
+        requires { Running work.old self }
+        ensures { Obeyed (eval_at instruction.now 0) self result work.old work.new }
+    {
+        let position = instruction[layout::POSITION] as usize;
+        let after = instruction[layout::NEXT];
+        if position == 0 || self.env == 0 || meaning::MOST_ARGUMENTS < position {
+            return Err(Number::Stuck);
+        }
+        let level = layout::LEVEL_WORDS * self.env;
+        let v = work[level + (layout::SLOTS + (position - 1))];
+        if position <= work[level + layout::STRICT] as usize {
+            return self.push(v, after, self.tally.step(), work);
+        }
+        if (work[level + layout::SIZE] as usize) < position {
+            return Err(Number::Stuck);
+        }
+        self.open_level(v, after, work)
+    }
+
+    // EXEC of an operation that is no constant: its value in the place of those that it takes, or that it would divide by 0.
+    fn work_out(self, instruction: &Instruction, work: &[u32]) -> Result<Self, Number>
+        requires { Running work.now self × (1 ≤ get_or instruction.now operation_word 0) }
+        ensures { Obeyed (exec_at instruction.now 0) self result work.now work.now }
+    {
+        let number = instruction[layout::OPERATION];
+        let at = instruction[layout::NEXT];
+        if number == word::NEGATION {
+            if self.deep == 0 {
+                return Err(Number::Stuck);
+            }
+            return Ok(Self {
+                held: word::not(self.held),
+                at,
+                tally: self.tally.rewrite(),
+                ..self
+            });
+        }
+        let Ok(operation) = Operation::try_from(number) else {
+            return Err(Number::Stuck);
+        };
+        if self.deep < 2 {
+            return Err(Number::Stuck);
+        }
+        let below = work[layout::VALUES + (self.deep - 1)];
+        let Some(held) = operation.work_out(below, self.held) else {
+            return Err(Number::Zero);
+        };
+        Ok(Self {
+            held,
+            at,
+            deep: self.deep - 1,
+            tally: self.tally.rewrite(),
+            ..self
+        })
+    }
+
+    // EXEC: a constant's value more, its operation being 0, or an operation worked out.
+    fn operate(self, instruction: &Instruction, work: &mut [u32]) -> Result<Self, Number>
+        requires { Running work.old self }
+        ensures { Obeyed (exec_at instruction.now 0) self result work.old work.new }
+    {
+        if instruction[layout::OPERATION] != 0 {
+            return self.work_out(instruction, work);
+        }
+        self.push(
+            instruction[layout::CONSTANT],
+            instruction[layout::NEXT],
+            self.tally.rewrite(),
+            work,
+        )
+    }
+
+    // SELECT: on at the branch that a yes/no picks. The entrance of the no branch stands one word after that of the yes branch.
+    fn choose(self, instruction: &Instruction, work: &[u32]) -> Result<Self, Number>
+        requires { Running work.now self }
+        ensures { Obeyed (select_at instruction.now 0) self result work.now work.now }
+    {
+        if self.deep == 0 || 1 < self.held {
+            return Err(Number::Stuck);
+        }
+        Ok(Self {
+            held: work[layout::VALUES + (self.deep - 1)],
+            at: instruction[layout::NO - self.held as usize],
+            deep: self.deep - 1,
+            tally: self.tally.rewrite(),
+            ..self
+        })
+    }
+
+    // CALL: a level with its frame, and on at the body.
+    fn call(self, instruction: &Instruction, work: &mut [u32]) -> Result<Self, Number>
+        requires { Running work.old self }
+        ensures { Obeyed (call_at instruction.now 0) self result work.old work.new }
+    {
+        let strict = instruction[layout::COUNT] as usize;
+        if meaning::MOST_ARGUMENTS < strict || self.deep < strict {
+            return Err(Number::Stuck);
+        }
+        let level = self.high + 1;
+        if meaning::MOST_HEIGHT < level {
+            return Err(Number::Deep);
+        }
+        let caller = Caller {
             env: self.env,
             high: self.high,
             deep: self.deep,
-            tally,
-        }
-    }
-}
-
-// A value more, and on to what follows.
-fn push(s: Registers, v: u32, after: u32, tally: Tally, work: &mut [u32]) -> Registers
-    requires { Running work.old s }
-    ensures { Met tally (pushing work.old s v after) s result work.old work.new }
-{
-    let deep = s.deep;
-    if meaning::MOST_HEIGHT <= deep {
-        return s.ended(meaning::DEEP);
-    }
-    work[layout::VALUES + deep] = s.held;
-    Registers {
-        number: meaning::FUEL,
-        held: v,
-        at: after,
-        env: s.env,
-        high: s.high,
-        deep: deep + 1,
-        tally,
-    }
-}
-
-// A level for the term of a waiting argument: its environment is the one below the frame that holds the argument.
-fn open_level(s: Registers, entrance: u32, after: u32, work: &mut [u32]) -> Registers
-    requires { Running work.old s × (1 ≤ s.env) }
-    ensures { Met (counted 0 s.tally) (opening work.old s entrance after) s result work.old work.new }
-{
-    let high = s.high;
-    if meaning::MOST_HEIGHT <= high {
-        return s.ended(meaning::DEEP);
-    }
-    let env = s.env;
-    let below = word::wide(work[layout::LEVEL_WORDS * env + layout::LINK]);
-    let level = layout::LEVEL_WORDS * (high + 1);
-    work[level + layout::RETURN] = after;
-    work[level + layout::LINK] = env as u32;
-    Registers {
-        number: meaning::FUEL,
-        held: s.held,
-        at: entrance,
-        env: below,
-        high: high + 1,
-        deep: s.deep,
-        tally: s.tally.step(),
-    }
-}
-
-// EVAL: the value of an argument, or a level for its term.
-fn look_up(s: Registers, code: &[u32], base: usize, work: &mut [u32]) -> Registers
-    requires { Running work.old s × (base + instruction_words ≤ length code.now) }
-    ensures { Obeyed (eval_at code.now base) s result work.old work.new }
-{
-    let position = word::wide(code[base + layout::POSITION]);
-    let after = code[base + layout::NEXT];
-    let env = s.env;
-    if position == 0 {
-        return s.ended(meaning::STUCK);
-    }
-    if env == 0 {
-        return s.ended(meaning::STUCK);
-    }
-    if meaning::MOST_ARGUMENTS < position {
-        return s.ended(meaning::STUCK);
-    }
-    let level = layout::LEVEL_WORDS * env;
-    let v = work[level + (layout::SLOTS + (position - 1))];
-    if position <= word::wide(work[level + layout::STRICT]) {
-        return push(s, v, after, s.tally.step(), work);
-    }
-    if word::wide(work[level + layout::SIZE]) < position {
-        return s.ended(meaning::STUCK);
-    }
-    open_level(s, v, after, work)
-}
-
-// EXEC of an operation that is no constant: its value in the place of those that it takes, or that it would divide by 0.
-fn work_out(s: Registers, code: &[u32], base: usize, work: &[u32]) -> Registers
-    requires { Running work.now s × (base + instruction_words ≤ length code.now) × (1 ≤ get_or code.now (base + operation_word) 0) }
-    ensures { Obeyed (exec_at code.now base) s result work.now work.now }
-{
-    let operation = code[base + layout::OPERATION];
-    let deep = s.deep;
-    if word::NEGATION < operation {
-        return s.ended(meaning::STUCK);
-    }
-    if operation == word::NEGATION {
-        if deep == 0 {
-            return s.ended(meaning::STUCK);
-        }
-        return Registers {
-            number: meaning::FUEL,
-            held: word::not(s.held),
-            at: code[base + layout::NEXT],
-            env: s.env,
-            high: s.high,
-            deep,
-            tally: s.tally.rewrite(),
+            held: self.held,
         };
+        frames::enter(
+            work,
+            caller,
+            instruction[layout::NEXT],
+            strict,
+            &instruction[layout::ENTRANCES..],
+        );
+        Ok(Self {
+            held: work[layout::VALUES + (self.deep - strict)],
+            at: instruction[layout::BODY],
+            env: level,
+            high: level,
+            deep: self.deep - strict,
+            tally: self.tally.rewrite(),
+        })
     }
-    if deep < 2 {
-        return s.ended(meaning::STUCK);
-    }
-    let worked = word::operate(operation, work[layout::VALUES + (deep - 1)], s.held);
-    let Worked::Value(v) = worked else {
-        return s.ended(meaning::ZERO);
-    };
-    Registers {
-        number: meaning::FUEL,
-        held: v,
-        at: code[base + layout::NEXT],
-        env: s.env,
-        high: s.high,
-        deep: deep - 1,
-        tally: s.tally.rewrite(),
-    }
-}
 
-// EXEC: a constant's value more, or an operation worked out.
-fn operate(s: Registers, code: &[u32], base: usize, work: &mut [u32]) -> Registers
-    requires { Running work.old s × (base + instruction_words ≤ length code.now) }
-    ensures { Obeyed (exec_at code.now base) s result work.old work.new }
-{
-    if code[base + layout::OPERATION] != 0 {
-        return work_out(s, code, base, work);
+    // RET: back in both stacks.
+    fn go_back(self, work: &[u32]) -> Self
+        requires { Running work.now self }
+        ensures { Obeyed (some RET) self (Ok result) work.now work.now }
+    {
+        let level = layout::LEVEL_WORDS * self.high;
+        Self {
+            at: work[level + layout::RETURN],
+            env: work[level + layout::LINK] as usize,
+            high: self.high - 1,
+            tally: self.tally.step(),
+            ..self
+        }
     }
-    push(
-        s,
-        code[base + layout::CONSTANT],
-        code[base + layout::NEXT],
-        s.tally.rewrite(),
-        work,
-    )
-}
 
-// SELECT: on at the branch that a yes/no picks. The entrance of the no branch stands one word after that of the yes branch.
-fn choose(s: Registers, code: &[u32], base: usize, work: &[u32]) -> Registers
-    requires { Running work.now s × (base + instruction_words ≤ length code.now) }
-    ensures { Obeyed (select_at code.now base) s result work.now work.now }
-{
-    let deep = s.deep;
-    let held = word::wide(s.held);
-    if deep == 0 {
-        return s.ended(meaning::STUCK);
-    }
-    if 1 < held {
-        return s.ended(meaning::STUCK);
-    }
-    Registers {
-        number: meaning::FUEL,
-        held: work[layout::VALUES + (deep - 1)],
-        at: code[base + layout::NO - held],
-        env: s.env,
-        high: s.high,
-        deep: deep - 1,
-        tally: s.tally.rewrite(),
-    }
-}
-
-// CALL: a level with its frame, and on at the body.
-fn call(s: Registers, code: &[u32], base: usize, work: &mut [u32]) -> Registers
-    requires { Running work.old s × (base + instruction_words ≤ length code.now) }
-    ensures { Obeyed (call_at code.now base) s result work.old work.new }
-{
-    let k = word::wide(code[base + layout::COUNT]);
-    let caller = s.high;
-    let deep = s.deep;
-    if meaning::MOST_ARGUMENTS < k {
-        return s.ended(meaning::STUCK);
-    }
-    if deep < k {
-        return s.ended(meaning::STUCK);
-    }
-    if meaning::MOST_HEIGHT <= caller {
-        return s.ended(meaning::DEEP);
-    }
-    let env = s.env;
-    frames::enter(
-        work,
-        code[base + layout::NEXT],
-        env as u32,
-        k,
-        code,
-        base + layout::ENTRANCES,
-        caller,
-        deep,
-        s.held,
-    );
-    Registers {
-        number: meaning::FUEL,
-        held: work[layout::VALUES + (deep - k)],
-        at: code[base + layout::BODY],
-        env: caller + 1,
-        high: caller + 1,
-        deep: deep - k,
-        tally: s.tally.rewrite(),
-    }
-}
-
-// What a run answers that ends at this height: at 0 the machine has stopped.
-fn number_at(high: usize) -> u32
-    ensures { result ≡ number_at high }
-{
-    if high == 0 {
-        meaning::HALT
-    } else {
-        meaning::FUEL
-    }
-}
-
-// RET: back in both stacks.
-fn go_back(s: Registers, work: &[u32]) -> Registers
-    requires { Running work.now s }
-    ensures { Obeyed (some RET) s result work.now work.now }
-{
-    let high = s.high;
-    let level = layout::LEVEL_WORDS * high;
-    Registers {
-        number: number_at(high - 1),
-        held: s.held,
-        at: work[level + layout::RETURN],
-        env: word::wide(work[level + layout::LINK]),
-        high: high - 1,
-        deep: s.deep,
-        tally: s.tally.step(),
-    }
-}
-
-// One step, by the kind of the instruction at the machine's address.
-pub fn step(s: Registers, code: &[u32], work: &mut [u32]) -> Registers
-    requires { Running work.old s }
-    ensures { Obeyed (decode code.now s.at) s result work.old work.new }
-{
-    let base = meaning::INSTRUCTION_WORDS * word::wide(s.at);
-    if code.len() < base + meaning::INSTRUCTION_WORDS {
-        return s.ended(meaning::STUCK);
-    }
-    match code[base] {
-        layout::EVAL => look_up(s, code, base, work),
-        layout::EXEC => operate(s, code, base, work),
-        layout::SELECT => choose(s, code, base, work),
-        layout::CALL => call(s, code, base, work),
-        layout::RET => go_back(s, work),
-        _ => s.ended(meaning::STUCK),
+    // One step, by the kind of the instruction at the machine's address: a match, since the kinds are settled; a table of functions would say no more.
+    pub fn step(self, code: &[u32], work: &mut [u32]) -> Result<Self, Number>
+        requires { Running work.old self }
+        ensures { Obeyed (decode code.now self.at) self result work.old work.new }
+    {
+        let Some(instruction) = instruction_at(code, self.at) else {
+            return Err(Number::Stuck);
+        };
+        match instruction[0] {
+            layout::EVAL => self.look_up(instruction, work),
+            layout::EXEC => self.operate(instruction, work),
+            layout::SELECT => self.choose(instruction, work),
+            layout::CALL => self.call(instruction, work),
+            layout::RET => Ok(self.go_back(work)),
+            _ => Err(Number::Stuck),
+        }
     }
 }

@@ -1,6 +1,7 @@
 -- Each kind of step over the words: what the machine's step is, and that the words which the code leaves hold what it comes to. Assumes nothing.
 use mathlib.Core.Path.{◌≡◌, refl, sym, ap, ◌∙◌, subst}
 use mathlib.Core.Bool.{Bool, true, false, ◌||◌}
+use mathlib.Core.Logic.{◌⊎◌, inl, inr}
 use mathlib.Core.Option.{none, some}
 use mathlib.Core.List.{List, [], ◌∷◌, ◌++◌, map, append-nil, append_assoc}
 use Prim.Native.Nat.{ℕ, zero, suc, ◌+◌, ◌-◌, ◌*◌, ◌≤◌, ◌<◌}
@@ -153,9 +154,14 @@ module _ (code : List ℕ) (base : ℕ) (rs : List Place) (es : List Environment
   abbrev branches : List ℕ → Next
   branches ds = choose (get_or code (base + 2) 0) (get_or code (base + 3) 0) rs ds es
 
-  pub choose_nothing : (held d : ℕ) → d ≡ 0 → branches (values w held d) ≡ no_step
+  -- no value, or none that is a yes/no
+  pub choose_nothing : (held d : ℕ) → (d ≡ 0) ⊎ ((d ≡ 0 → ⊥) × (1 < held)) → branches (values w held d) ≡ no_step
   unfolding choose values
-  choose_nothing held d q = rw q
+  choose_nothing held zero q = refl
+  choose_nothing held (suc d) (inl q) = absurd (omega arith)
+  choose_nothing zero (suc d) (inr q) = absurd (omega arith)
+  choose_nothing (suc zero) (suc d) (inr q) = absurd (omega arith)
+  choose_nothing (suc (suc v)) (suc d) (inr q) = refl
 
   pub choose_branch : (held d : ℕ) → 1 ≤ d → held ≤ 1 → branches (values w held d) ≡ next (state (at (get_or code (base + 3 - held) 0)) rs (values w (get_or w (values_from + (d - 1)) 0) (d - 1)) es)
   unfolding choose values
@@ -169,13 +175,6 @@ module _ (code : List ℕ) (base : ℕ) (rs : List Place) (es : List Environment
       let q : base + 3 - 1 ≡ base + 2 = omega arith in
       rw (p, q, taken_up w d)
   choose_branch (suc (suc v)) (suc d) l m = absurd (omega arith)
-
-  pub choose_neither : (held d : ℕ) → 1 ≤ d → 1 < held → branches (values w held d) ≡ no_step
-  unfolding choose values
-  choose_neither held zero l m = absurd (omega arith)
-  choose_neither zero (suc d) l m = absurd (omega arith)
-  choose_neither (suc zero) (suc d) l m = absurd (omega arith)
-  choose_neither (suc (suc v)) (suc d) l m = refl
 
 -- CALL: the top goes to the words, and k values are taken from there.
 pub taken_stored : (w : List ℕ) (k d : ℕ) (vs : List ℕ) → k ≤ d → taken k vs (stored w d) ≡ some (row w (values_from + suc (d - k)) k ++ vs, stored w (d - k))

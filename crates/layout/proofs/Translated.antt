@@ -5,7 +5,6 @@ use mathlib.Core.Bool.{Bool, true, false}
 use mathlib.Core.Option.{Option, none, some}
 use mathlib.Core.List.{List, [], ◌∷◌, ◌++◌}
 use Prim.Native.Nat.{ℕ, zero, suc, ◌+◌, ◌*◌, ◌-◌, ◌≤◌, ◌<◌}
-use native.Mathlib.Nat.{add-zero}
 use native.Mathlib.Omega.{arith}
 use lib.Dec.{ltb, eqb}
 use lib.ListN.{length, get_or, take, replicate, get_elem?, length-append}
@@ -21,7 +20,8 @@ use Rattle.accepted.specs.Readable.{Readable}
 use Rattle.accepted.proofs.Length.{twelve_long}
 use Rattle.accepted.proofs.Readable.{readable}
 use Rattle.layout.specs.Decoding.{row, leading, operation, an_eval, an_exec, a_call, of_kind, decode, first_entrance}
-use Rattle.layout.proofs.Rows.{row_same, row_behind, leading_cons}
+use Rattle.layout.proofs.Rows.{row_behind, leading_cons}
+use Rattle.layout.proofs.Reading.{of_kind_same}
 
 -- the entrances up to the first 0 are those that were written
 entrances_back : (n m z : ℕ) (ws rest : List ℕ) → length ws ≤ m → m ≤ n → n ≤ z → Every (λ w. 1 ≤ w) ws → leading (row (take n (ws ++ replicate z 0) ++ rest) 0 m) ≡ ws
@@ -63,20 +63,6 @@ here (CALL a k ws b) rest s =
     rw (le-ltb most_arguments k (omega (arith, s.0)), e)
 here RET rest s = refl
 
--- words that agree decode alike
-of_kind_same : (w v : List ℕ) (a b : ℕ) → ((j : ℕ) → get_or v (b + j) 0 ≡ get_or w (a + j) 0) → of_kind (get_or v b 0) v b ≡ of_kind (get_or w a 0) w a
-unfolding of_kind a_call
-of_kind_same w v a b s =
-    let z : get_or v b 0 ≡ get_or w a 0 = rw (add-zero b, add-zero a) at (s 0) in
-    let f : (j : ℕ) → j < most_arguments - get_or w (a + 3) 0 → get_or v (b + 4 + j) 0 ≡ get_or w (a + 4 + j) 0 = λ j h. shifted j in
-    rw (z, s 1, s 2, s 3, row_same w v (a + 4) (b + 4) (most_arguments - get_or w (a + 3) 0) f)
-  where
-    shifted : (j : ℕ) → get_or v (b + 4 + j) 0 ≡ get_or w (a + 4 + j) 0
-    shifted j =
-        let p : b + 4 + j ≡ b + (4 + j) = omega arith in
-        let q : a + 4 + j ≡ a + (4 + j) = omega arith in
-        rw (p, q) (s (4 + j))
-
 behind_by : (xs c : List ℕ) (a : ℕ) (b : Bool) → length xs ≡ instruction_words → ltb (length c) (instruction_words * a + instruction_words) ≡ b → decode (xs ++ c) (suc a) ≡ decode c a
 unfolding decode
 behind_by xs c a true l e =
@@ -86,7 +72,7 @@ behind_by xs c a true l e =
 behind_by xs c a false l e =
     let h : instruction_words * a + instruction_words ≤ length c = ltb-false (length c) (instruction_words * a + instruction_words) e in
     let g : instruction_words * suc a + instruction_words ≤ length (xs ++ c) = omega (arith, length-append xs c) in
-    rw (e, le-ltb (length (xs ++ c)) (instruction_words * suc a + instruction_words) g) (of_kind_same c (xs ++ c) (instruction_words * a) (instruction_words * suc a) (λ j. word j))
+    rw (e, le-ltb (length (xs ++ c)) (instruction_words * suc a + instruction_words) g) (of_kind_same c (xs ++ c) (instruction_words * a) (instruction_words * suc a) (λ j h. word j))
   where
     word : (j : ℕ) → get_or (xs ++ c) (instruction_words * suc a + j) 0 ≡ get_or c (instruction_words * a + j) 0
     word j =

@@ -2,7 +2,7 @@
 // layout stands in specs/ and proofs/. Assumes nothing.
 #![tactic(auto)]
 
-// The kinds of instruction.
+// The kinds of instruction: numbers and no enum, since they are words of the code slice, which a caller in C holds; the step matches the word itself.
 pub const EVAL: u32 = 1;
 
 pub const EXEC: u32 = 2;

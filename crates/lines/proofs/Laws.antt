@@ -1,60 +1,71 @@
 -- Laws of lines: field by field, line by line, signatures, packed names, and the scan. Assumes nothing.
-use Rattle.std.specs.Prelude.{if◌then◌else◌}
+use Rattle.std.specs.Prelude.{if◌then◌else◌, Option, Some, None, Result, Ok, Err}
+use Rattle.std.specs.Result.{MatchResult, IsErrAnd}
+use Rattle.std.specs.Option.{MatchOption}
+use Rattle.std.proofs.Common.{Bor, ◌⊎◌, inl, inr}
+use Rattle.std.proofs.lemmas.Bool.{false≢true}
+use Rattle.std.specs.List.{list_any, fold}
+use Rattle.std.proofs.Common.{bit_or, ◌%◌, take_all}
+use Rattle.std.proofs.lemmas.Grind.{fold-append}
+use Rattle.std.proofs.lemmas.Nat.{or_shifted, shl_whole}
+use Rattle.std.specs.Int.{from_bool}
+use Rattle.std.proofs.lemmas.List.{reverse-append}
 use mathlib.Core.Path.{◌≡◌, refl, ap, sym, ◌∙◌, subst}
-use mathlib.Core.List.{List, [], ◌∷◌, map}
-use mathlib.Core.Bool.{Bool, true, false, ◌&&◌}
+use mathlib.Core.List.{List, [], ◌∷◌, map, reverse}
+use mathlib.Core.Bool.{Bool, true, false, ◌&&◌, ◌||◌}
 use Prim.Native.Nat.{ℕ, zero, suc, ◌+◌, ◌-◌, ◌*◌, ◌^◌, ◌<◌, ◌≤◌}
 use native.Mathlib.Omega.{arith}
 use native.Mathlib.Nat.{pow-succ', pow-le-pow_right}
 use native.Mathlib.Numerals.{add-one}
 use lib.ListN.{length, get_or, drop, take, set, drop_of_length-le, length-drop, length-map, length-set}
-use lib.Seq.{drop-cons, drop-drop, length-take-le, take_all, take-suc, get_or-drop, get_or-take}
+use lib.Seq.{drop-cons, length-take-le, take-suc, get_or-drop, get_or-take}
 use lib.Dec.{leb, eqb}
-use borrow.Author.Tests.{eq-eqb, ne_eqb, le-leb, lt-leb, leb-true, leb-false}
+use borrow.Author.Tests.{le-leb, lt-leb, leb-true, leb-false, eqb-true, eqb-false, eq-eqb, ne_eqb}
 use Rattle.meaning.specs.Basics.{all}
-use Rattle.meaning.specs.Arithmetic.{number, yes_no}
-use Rattle.meaning.specs.Numbers.{no}
-use Rattle.meaning.specs.Text.{Field, fine, Passed, Line, pieces, onto_first, is_visible, is_name, is_capital, is_count, are_sorts, is_result, is_sort, value, value_from, forms, first_wrong, wrong_field, judge_line, judge_lines, judge_shape, sort_of, line_of, all_but_last, lines, judge_symbols, judge_counts}
+use Rattle.meaning.specs.Arithmetic.{Sort, number, yes_no}
+use Rattle.meaning.specs.Numbers.{LINE, COUNT, NAME}
+use Rattle.meaning.specs.Said.{found, refusal}
+use Rattle.meaning.specs.Text.{Field, fine, refused, Passed, Line, pieces, onto_first, is_visible, is_name, is_capital, is_count, are_sorts, is_result, value, value_from, forms, first_wrong, wrong_field, judge_line, judge_lines, judge_shape, sort_of, line_of, all_but_last, lines, judge_symbols, judge_counts}
 use Rattle.meaning.specs.Answers.{sort_number}
-use Rattle.table.specs.Table.{signature, mask}
+use Rattle.table.specs.Symbols.{signature, mask}
+use Rattle.table.specs.declared.Signature.{Signature}
 use Rattle.fields.specs.Fields.{span, rest, visible_span, occurrences, count_of, packed, is_name_byte}
-use Rattle.fields.specs.declared.Strict.{Strict}
-use Rattle.fields.specs.declared.Strict.TheVariants as strict
 use Rattle.accepted.proofs.Lines.{judged}
-use Rattle.fields.proofs.Laws.{and_left, and_right, first_piece, next_piece, no_piece, piece_count, sight_end, sight_tab, sight_other, sight_none, at_start}
-use Rattle.lines.specs.Lines.{shown, judgement, sound, judged_from, judged_2, judged_line, body_fields, raw_lines, Right, part, Parted, total, line_signature, name_number, misfit, Scan, bit, is_held, judge_packed}
-use Rattle.lines.specs.declared.Scanned.{Scanned}
-use Rattle.lines.specs.declared.Judgement.TheVariants.{Passes, Refused}
+use Rattle.fields.proofs.Laws.{and_left, and_right, first_piece, next_piece, no_piece, piece_count, sight_end, sight_tab, sight_other, sight_none}
+use Rattle.lines.specs.Lines.{shown, outcome, judged_line, body_fields, raw_lines, Right, part, Parted, total, line_signature, name_number, misfit, Scan, is_held, judge_packed}
 use Rattle.lines.proofs.Splice.{sets, sets_on, sets_splice}
 
+-- All that is left.
+pub rest_all : (s : List ℕ) (i : ℕ) → take (length s - i) (drop i s) ≡ drop i s
+rest_all s i = take_all (length s - i) (drop i s) (omega (arith, length-drop i s))
+
 -- Field by field.
-
-module _ (l : List ℕ) (at : ℕ) (h : length l ≤ at) where
-  pub no_more : (k : ℕ) → 65536 + k ≡ judged_from k [] (rest 9 (drop at l))
-  unfolding judged_from
-  no_more k = rw (no_piece 9 l at h)
-
-  pub too_few : (k : ℕ) (form : Field → Bool) (forms : List (Field → Bool)) → k ≡ judged_from k (form ∷ forms) (rest 9 (drop at l))
-  unfolding judged_from
-  too_few k form forms = rw (no_piece 9 l at h)
-
-  pub no_field_2 : 2 ≡ judged_2 (rest 9 (drop at l))
-  unfolding judged_2
-  no_field_2 = rw (no_piece 9 l at h)
 
 module _ (l : List ℕ) (at e : ℕ) (h : at < length l) (q : e ≡ at + 1 + span 9 (drop (at + 1) l)) where
   pub opened : rest 9 (drop at l) ≡ part l (at + 1) e ∷ rest 9 (drop e l)
   opened = next_piece 9 l at (at + 1) e h refl q
 
-  pub form_fits : (k : ℕ) (form : Field → Bool) (forms : List (Field → Bool)) (v : Bool) → v ≡ form (part l (at + 1) e) → v ≡ true →
-      judged_from (k + 1) forms (rest 9 (drop e l)) ≡ judged_from k (form ∷ forms) (rest 9 (drop at l))
-  unfolding judged_from
-  form_fits k form forms v x y = rw (opened, ← x, y)
+-- The first ends at e.
+pub first_cut : (b : ℕ) (l : List ℕ) (e : ℕ) → e ≡ 0 + span b (drop 0 l) → pieces b l ≡ take e l ∷ rest b (drop e l)
+first_cut b l e q = let n : e ≡ span b l = omega (arith, q) in rw n (first_piece b l)
 
-  pub form_wrong : (k : ℕ) (form : Field → Bool) (forms : List (Field → Bool)) (v : Bool) → v ≡ form (part l (at + 1) e) → v ≡ false →
-      k ≡ judged_from k (form ∷ forms) (rest 9 (drop at l))
-  unfolding judged_from
-  form_wrong k form forms v x y = rw (opened, ← x, y)
+pub first_rest : (l : List ℕ) (e : ℕ) → e ≡ 0 + span 9 (drop 0 l) → pieces 9 l ≡ take e l ∷ rest 9 (take (length l - e) (drop e l))
+first_rest l e q = rw (rest_all l e) (first_cut 9 l e q)
+
+pub first_field : (l : List ℕ) (e : ℕ) → e ≡ 0 + span 9 (drop 0 l) → pieces 9 l ≡ part l 0 e ∷ rest 9 (drop e l)
+first_field l e q = let m : e - 0 ≡ e = omega arith in rw m (first_cut 9 l e q)
+
+-- The fields after a tab, one after the other.
+pub no_field : (l : List ℕ) → length l ≡ 0 → rest 9 l ≡ []
+no_field l h = no_piece 9 l 0 (omega (arith, h))
+
+pub one_field : (l : List ℕ) (e : ℕ) → (length l ≡ 0 → ⊥) → e ≡ 1 + span 9 (drop 1 l) → rest 9 l ≡ take (e - 1) (drop 1 l) ∷ rest 9 (take (length l - e) (drop e l))
+one_field l e h q = rw (rest_all l e) (next_piece 9 l 0 1 e (omega (arith, h)) (omega arith) q)
+
+judged_wrong : (w n : ℕ) → 0 < w → Err w ≡ outcome w n
+unfolding outcome
+judged_wrong zero n h = absurd (omega arith)
+judged_wrong (suc w) n h = refl
 
 past : (e a : ℕ) → (e ≡ a → ⊥) → a ≤ e → a < e
 past e a z h = by_order (leb e a) refl
@@ -76,140 +87,178 @@ module _ (l : List ℕ) (at e : ℕ) (h : at < length l) (q : e ≡ at + 1 + vis
       let n : stop - (at + 1) ≡ span 9 (drop (at + 1) l) = omega arith in
       next_piece 9 l at (at + 1) stop h refl refl ∙ ap (λ (k : ℕ). take k (drop (at + 1) l) ∷ rest 9 (drop stop l)) n
 
-  not_visible : (k : ℕ) → is_visible field ≡ false → k ≡ judged_from k [] (rest 9 (drop at l))
-  unfolding judged_from
-  not_visible k v = rw (seen, v)
+  -- k symbols stand before it.
+  not_visible : (k n : ℕ) → is_visible field ≡ false → Err (5 + k) ≡ outcome (first_wrong (5 + k) [] (rest 9 (drop at l))) n
+  unfolding first_wrong
+  not_visible k n v = rw (seen, v) (judged_wrong (5 + k) n (omega arith))
 
-  pub empty_field : (k : ℕ) → e ≡ at + 1 → k ≡ judged_from k [] (rest 9 (drop at l))
-  empty_field k z = not_visible k (sight_none l (at + 1) e (omega arith) q z)
+  pub empty_field : (k n : ℕ) → e ≡ at + 1 → Err (5 + k) ≡ outcome (first_wrong (5 + k) [] (rest 9 (drop at l))) n
+  empty_field k n z = not_visible k n (sight_none l (at + 1) e (omega arith) q z)
 
-  pub spoilt_field : (k : ℕ) → e < length l → (get_or l e 0 ≡ 9 → ⊥) → k ≡ judged_from k [] (rest 9 (drop at l))
-  spoilt_field k o t = not_visible k (sight_other l (at + 1) e (omega arith) q o t)
+  pub spoilt_field : (k n : ℕ) → e < length l → (get_or l e 0 ≡ 9 → ⊥) → Err (5 + k) ≡ outcome (first_wrong (5 + k) [] (rest 9 (drop at l))) n
+  spoilt_field k n o t = not_visible k n (sight_other l (at + 1) e (omega arith) q o t)
 
   stop_is : at + 1 ≤ e → span 9 (drop (at + 1) l) ≡ e - (at + 1) → stop ≡ e
   stop_is m n = omega arith
 
-  pub last_field : (k : ℕ) → length l ≤ e → e ≤ length l → (e ≡ at + 1 → ⊥) → at + 1 ≤ e → 65536 + (k + 1) ≡ judged_from k [] (rest 9 (drop at l))
-  unfolding judged_from
-  last_field k o p z m =
+  -- All are n.
+  pub last_field : (k n : ℕ) → k + length (rest 9 (drop at l)) ≡ n → length l ≤ e → e ≤ length l → (e ≡ at + 1 → ⊥) → at + 1 ≤ e → Ok (k + 1) ≡ outcome (first_wrong (5 + k) [] (rest 9 (drop at l))) n
+  unfolding outcome first_wrong
+  last_field k n c o p z m =
       let y = sight_end l (at + 1) e (omega arith) q o p (past e (at + 1) z m) in
-      rw (seen, y.1, stop_is m y.0) (no_more l e o (k + 1))
+      let none : rest 9 (drop stop l) ≡ [] = ap (λ (i : ℕ). rest 9 (drop i l)) (stop_is m y.0) ∙ no_piece 9 l e o in
+      let one : k + 1 ≡ n = omega (arith, c, ap length seen, ap length none) in
+      rw (seen, y.1, none, one)
 
-  pub good_field : (k : ℕ) → e < length l → get_or l e 0 ≡ 9 → (e ≡ at + 1 → ⊥) → at + 1 ≤ e → judged_from (k + 1) [] (rest 9 (drop e l)) ≡ judged_from k [] (rest 9 (drop at l))
-  unfolding judged_from
-  good_field k o t z m =
+  pub good_field : (k n : ℕ) → e < length l → get_or l e 0 ≡ 9 → (e ≡ at + 1 → ⊥) → at + 1 ≤ e →
+      (length (rest 9 (drop at l)) ≡ suc (length (rest 9 (drop e l)))) × (outcome (first_wrong (5 + (k + 1)) [] (rest 9 (drop e l))) n ≡ outcome (first_wrong (5 + k) [] (rest 9 (drop at l))) n)
+  unfolding first_wrong
+  good_field k n o t z m =
       let y = sight_tab l (at + 1) e (omega arith) q o t (past e (at + 1) z m) in
-      rw (seen, y.1, stop_is m y.0)
+      let f : 5 + (k + 1) ≡ 5 + k + 1 = omega arith in
+      (ap length seen ∙ rw (stop_is m y.0), rw (seen, y.1, stop_is m y.0, f))
 
--- Field 2.
+pub no_symbols : (l : List ℕ) (at k n : ℕ) → k + length (rest 9 (drop at l)) ≡ n → length l ≤ at → Ok k ≡ outcome (first_wrong (5 + k) [] (rest 9 (drop at l))) n
+unfolding outcome first_wrong
+no_symbols l at k n c h =
+    let none : rest 9 (drop at l) ≡ [] = no_piece 9 l at h in
+    let all : k ≡ n = omega (arith, c, ap length none) in
+    rw (none, all)
 
-strict_found : (f : Field) (s : ℕ) (t : Bool) → strict.Is s ≡ (if t then strict.Is (value f) else strict.Not) → (t ≡ true) × (value f ≡ s)
-strict_found f s true e = (refl, cc)
-strict_found f s false e = let z : ◌≡◌ {A = ℕ} 0 1 = cc in absurd (omega arith)
+-- What becomes of the next field: none is left, or it is looked at.
+looked_at : {X : Type 0} (o : Option (Bor Field)) (F G : List Field) (u : Field → X) (d r : X) (P : Bor Field → Type 0) → MatchOption o ((F ≡ []) × (G ≡ [])) (λ x. F ≡ x.now ∷ G) → MatchOption o (r ≡ d) P →
+    ((x : Bor Field) → P x → r ≡ u x.now) → ((F ≡ []) × (r ≡ d)) ⊎ ((f : Field) × (F ≡ f ∷ G) × (r ≡ u f))
+looked_at None F G u d r P steps ran k = inl (steps.0, ran)
+looked_at (Some x) F G u d r P steps ran k = inr (x.now, steps, k x ran)
 
-strict_missing : (f : Field) (t : Bool) → strict.Not ≡ (if t then strict.Is (value f) else strict.Not) → t ≡ false
-strict_missing f false e = refl
-strict_missing f true e = let z : ◌≡◌ {A = ℕ} 0 1 = cc in absurd (omega arith)
+-- A test of it passes, or not.
+module _ (o : Option (Bor Field)) (F G : List Field) (test : Field → Bool) (r : Bool) (P : Bor Field → Type 0) (steps : MatchOption o ((F ≡ []) × (G ≡ [])) (λ x. F ≡ x.now ∷ G)) (ran : MatchOption o (r ≡ false) P)
+    (k : (x : Bor Field) → P x → r ≡ test x.now) where
+  pub passes : r ≡ true → (f : Field) × (F ≡ f ∷ G) × (test f ≡ true)
+  passes e = elim (looked_at o F G test false r P steps ran k) [ inl n ↦ absurd (false≢true (sym n.1 ∙ e)) | inr y ↦ (y.0, y.1, sym y.2 ∙ e) ]
 
-module _ (l : List ℕ) (at e : ℕ) (h : at < length l) (q : e ≡ at + 1 + span 9 (drop (at + 1) l)) (d : Strict) (x : d ≡ count_of (part l (at + 1) e)) where
-  pub count_found : (s : ℕ) → d ≡ strict.Is s → judged_from 3 (are_sorts s ∷ is_result ∷ is_visible ∷ []) (rest 9 (drop e l)) ≡ judged_2 (rest 9 (drop at l))
-  unfolding judged_2 count_of
-  count_found s y =
-      let k = strict_found (part l (at + 1) e) s (is_count (part l (at + 1) e)) (sym y ∙ x) in
-      rw (opened l at e h q, k.0, k.1)
+  pub fails : r ≡ false → (F ≡ []) ⊎ ((f : Field) × (F ≡ f ∷ G) × (test f ≡ false))
+  fails e = elim (looked_at o F G test false r P steps ran k) [ inl n ↦ inl n.0 | inr y ↦ inr (y.0, y.1, sym y.2 ∙ e) ]
 
-  pub count_missing : d ≡ strict.Not → 2 ≡ judged_2 (rest 9 (drop at l))
-  unfolding judged_2 count_of
-  count_missing y = rw (opened l at e h q, strict_missing (part l (at + 1) e) (is_count (part l (at + 1) e)) (sym y ∙ x))
+-- It is a digit, or not.
+module _ (o : Option (Bor Field)) (F G : List Field) (r : Option ℕ) (P : Bor Field → Type 0) (steps : MatchOption o ((F ≡ []) × (G ≡ [])) (λ x. F ≡ x.now ∷ G)) (ran : MatchOption o (r ≡ None) P)
+    (k : (x : Bor Field) → P x → r ≡ count_of x.now) where
+  pub counts_as : (s : ℕ) → r ≡ Some s → (f : Field) × (F ≡ f ∷ G) × (count_of f ≡ Some s)
+  counts_as s e = elim (looked_at o F G count_of None r P steps ran k) [ inl n ↦ cc (n.1, e) | inr y ↦ (y.0, y.1, sym y.2 ∙ e) ]
 
--- Field 1.
+  pub counts_none : r ≡ None → (F ≡ []) ⊎ ((f : Field) × (F ≡ f ∷ G) × (count_of f ≡ None))
+  counts_none e = elim (looked_at o F G count_of None r P steps ran k) [ inl n ↦ inl n.0 | inr y ↦ inr (y.0, y.1, sym y.2 ∙ e) ]
 
-from_name : (f : Field) (fs : List Field) → judged_line (f ∷ fs) ≡ (if is_name f then judged_2 fs else 1)
-unfolding judged_line forms judged_from judged_2
-from_name f [] = refl
-from_name f (g ∷ fs) = refl
+-- What field 2 is.
+count_found : (t : Bool) (v s : ℕ) → ◌≡◌ {A = Option ℕ} (if t then Some v else None) (Some s) → (t ≡ true) × (v ≡ s)
+count_found true v s e = (refl, cc)
+count_found false v s e = cc
 
-module _ (l : List ℕ) (e : ℕ) (q : e ≡ 0 + span 9 (drop 0 l)) where
-  pub first_field : pieces 9 l ≡ part l 0 e ∷ rest 9 (drop e l)
-  first_field = let n : e ≡ span 9 l = omega (arith, q) in let m : e - 0 ≡ e = omega arith in rw (m, n) (first_piece 9 l)
+count_missing : (t : Bool) (v : ℕ) → ◌≡◌ {A = Option ℕ} (if t then Some v else None) None → t ≡ false
+count_missing true v e = cc
+count_missing false v e = refl
 
-  pub name_fits : (v : Bool) → v ≡ is_name (part l 0 e) → v ≡ true → judged_2 (rest 9 (drop e l)) ≡ judged_line (pieces 9 l)
-  name_fits v x y = sym (ap judged_line first_field ∙ from_name (part l 0 e) (rest 9 (drop e l)) ∙ rw (← x, y))
+-- A line by its first fields.
+module _ (fs : List Field) (name : Field) (after_name : List Field) (p : fs ≡ name ∷ after_name) where
+  pub name_wrong : is_name name ≡ false → Err 1 ≡ judged_line fs
+  unfolding judged_line outcome wrong_field forms first_wrong
+  name_wrong x = rw (p, x)
 
-  pub name_wrong : (v : Bool) → v ≡ is_name (part l 0 e) → v ≡ false → 1 ≡ judged_line (pieces 9 l)
-  name_wrong v x y = sym (ap judged_line first_field ∙ from_name (part l 0 e) (rest 9 (drop e l)) ∙ rw (← x, y))
+  module _ (named : is_name name ≡ true) where
+    strict_lacks : after_name ≡ [] → Err 2 ≡ judged_line fs
+    unfolding judged_line outcome wrong_field forms first_wrong
+    strict_lacks x = rw (p, x, named)
 
--- The number that a line is judged by, told by its first wrong field and the field that would come next.
+    module _ (strict : Field) (after_strict : List Field) (q : after_name ≡ strict ∷ after_strict) where
+      strict_wrong : count_of strict ≡ None → Err 2 ≡ judged_line fs
+      unfolding judged_line outcome wrong_field forms first_wrong count_of
+      strict_wrong x = rw (p, q, named, count_missing (is_count strict) (value strict) x)
 
-abbrev told : ℕ → ℕ → ℕ
-told zero n = sound + n
-told (suc w) n = suc w
+      module _ (s : ℕ) (counted : count_of strict ≡ Some s) where
+        is_counted : (is_count strict ≡ true) × (value strict ≡ s)
+        unfolding count_of
+        is_counted = count_found (is_count strict) (value strict) s counted
 
-told_by : (t : Bool) (k n j w : ℕ) → j ≡ told w n → (if t then j else suc k) ≡ told (if t then w else suc k) n
-told_by true k n j w e = e
-told_by false k n j w e = refl
+        sorts_lack : after_strict ≡ [] → Err 3 ≡ judged_line fs
+        unfolding judged_line outcome wrong_field forms first_wrong
+        sorts_lack x = rw (p, q, x, named, is_counted.0)
 
-further : (k : ℕ) (forms : List (Field → Bool)) (fs : List Field) → judged_from (suc (suc k)) forms fs ≡ told (first_wrong (suc (suc k)) forms fs) (suc (suc k) + length fs) →
-    judged_from (suc k + 1) forms fs ≡ told (first_wrong (suc k + 1) forms fs) (suc k + suc (length fs))
-further k forms fs e =
-    let p : suc k + 1 ≡ suc (suc k) = omega arith in
-    let q : suc k + suc (length fs) ≡ suc (suc k) + length fs = omega arith in
-    rw (p, q) e
+        module _ (sorts : Field) (after_sorts : List Field) (r : after_strict ≡ sorts ∷ after_sorts) where
+          at_sorts : judged_line (name ∷ strict ∷ sorts ∷ after_sorts) ≡ judged_line fs
+          at_sorts = sym (ap judged_line (rw (p, q, r)))
 
-judged_told : (k : ℕ) (forms : List (Field → Bool)) (fs : List Field) → judged_from (suc k) forms fs ≡ told (first_wrong (suc k) forms fs) (suc k + length fs)
-unfolding judged_from first_wrong
-judged_told k [] [] = omega arith
-judged_told k [] (f ∷ fs) = told_by (is_visible f) k _ _ _ (further k [] fs (judged_told (suc k) [] fs))
-judged_told k (form ∷ more) [] = refl
-judged_told k (form ∷ more) (f ∷ fs) = told_by (form f) k _ _ _ (further k more fs (judged_told (suc k) more fs))
+          sorts_wrong : are_sorts s sorts ≡ false → Err 3 ≡ judged_line fs
+          unfolding judged_line outcome wrong_field forms first_wrong
+          sorts_wrong x = let y : Err 3 ≡ judged_line (name ∷ strict ∷ sorts ∷ after_sorts) = rw (named, is_counted.0, is_counted.1, x) in y ∙ at_sorts
 
-line_told : (fs : List Field) → judged_line fs ≡ told (wrong_field fs) (1 + length fs)
-unfolding judged_line wrong_field
-line_told fs = judged_told 0 (forms (value (get_or fs 1 []))) fs
+          module _ (sorted : are_sorts s sorts ≡ true) where
+            result_lacks : after_sorts ≡ [] → Err 4 ≡ judged_line fs
+            unfolding judged_line outcome wrong_field forms first_wrong
+            result_lacks x = let y : Err 4 ≡ judged_line (name ∷ strict ∷ sorts ∷ []) = rw (named, is_counted.0, is_counted.1, sorted) in y ∙ ap (λ (more : List Field). judged_line (name ∷ strict ∷ sorts ∷ more)) (sym x) ∙ at_sorts
 
-within_by : (t : Bool) (k n w : ℕ) → w ≤ n → k ≤ n → (if t then w else k) ≤ n
-within_by true k n w e f = e
-within_by false k n w e f = f
+            module _ (res : Field) (body : List Field) (t : after_sorts ≡ res ∷ body) where
+              at_result : judged_line (name ∷ strict ∷ sorts ∷ res ∷ body) ≡ judged_line fs
+              at_result = rw (← t) at_sorts
 
-wrong_within : (k : ℕ) (forms : List (Field → Bool)) (fs : List Field) → first_wrong k forms fs ≤ k + length fs
-unfolding first_wrong
-wrong_within k [] [] = omega arith
-wrong_within k [] (f ∷ fs) = within_by (is_visible f) k _ _ (omega (arith, wrong_within (k + 1) [] fs)) (omega arith)
-wrong_within k (form ∷ more) [] = omega arith
-wrong_within k (form ∷ more) (f ∷ fs) = within_by (form f) k _ _ (omega (arith, wrong_within (k + 1) more fs)) (omega arith)
+              result_wrong : is_result res ≡ false → Err 4 ≡ judged_line fs
+              unfolding judged_line outcome wrong_field forms first_wrong
+              result_wrong x = let y : Err 4 ≡ judged_line (name ∷ strict ∷ sorts ∷ res ∷ body) = rw (named, is_counted.0, is_counted.1, sorted, x) in y ∙ at_result
 
-line_within : (fs : List Field) → wrong_field fs ≤ 1 + length fs
-unfolding wrong_field
-line_within fs = wrong_within 1 (forms (value (get_or fs 1 []))) fs
+              module _ (resulting : is_result res ≡ true) where
+                pub body_lacks : body ≡ [] → Err 5 ≡ judged_line fs
+                unfolding judged_line outcome wrong_field forms first_wrong
+                body_lacks x = let y : Err 5 ≡ judged_line (name ∷ strict ∷ sorts ∷ res ∷ []) = rw (named, is_counted.0, is_counted.1, sorted, resulting) in y ∙ ap (λ (more : List Field). judged_line (name ∷ strict ∷ sorts ∷ res ∷ more)) (sym x) ∙ at_result
 
--- Below `sound` it is the first wrong field; from there on none is wrong.
-told_wrong : (w n r : ℕ) → r ≡ told w n → r < 65536 → (r ≡ w) × (r ≡ 0 → ⊥)
-told_wrong zero n r e h = absurd (omega (arith, e))
-told_wrong (suc w) n r e h = (e, λ z. omega (arith, e))
+                pub body_judged : (f : Field) (more : List Field) → body ≡ f ∷ more → outcome (first_wrong 5 [] body) (length body) ≡ judged_line fs
+                unfolding judged_line wrong_field forms first_wrong
+                body_judged f more x =
+                    let y : outcome (first_wrong 5 [] (f ∷ more)) (length (f ∷ more)) ≡ judged_line (name ∷ strict ∷ sorts ∷ res ∷ f ∷ more) = rw (named, is_counted.0, is_counted.1, sorted, resulting) in
+                    rw x y ∙ at_result
 
-told_sound : (w n r : ℕ) → r ≡ told w n → w ≤ n → n < 65536 → 65536 ≤ r → (w ≡ 0) × (r ≡ 65536 + n)
-told_sound zero n r e o m h = (refl, e)
-told_sound (suc w) n r e o m h = absurd (omega (arith, e))
+-- A field that is not there or not of its form.
+module _ (fs : List Field) (name : Field) (after_name : List Field) (p : fs ≡ name ∷ after_name) (named : is_name name ≡ true) where
+  pub no_strict : (gs : List Field) → (after_name ≡ []) ⊎ ((f : Field) × (after_name ≡ f ∷ gs) × (count_of f ≡ None)) → Err 2 ≡ judged_line fs
+  no_strict gs (inl e) = strict_lacks fs name after_name p named e
+  no_strict gs (inr y) = strict_wrong fs name after_name p named y.0 gs y.1 y.2
 
-pub wrong_line : (fs : List Field) (r : ℕ) → r ≡ judged_line fs → r < 65536 → (r ≡ wrong_field fs) × (r ≡ 0 → ⊥)
-wrong_line fs r e h = told_wrong (wrong_field fs) (1 + length fs) r (e ∙ line_told fs) h
+  module _ (strict : Field) (after_strict : List Field) (q : after_name ≡ strict ∷ after_strict) (s : ℕ) (counted : count_of strict ≡ Some s) where
+    pub no_sorts : (gs : List Field) → (after_strict ≡ []) ⊎ ((f : Field) × (after_strict ≡ f ∷ gs) × (are_sorts s f ≡ false)) → Err 3 ≡ judged_line fs
+    no_sorts gs (inl e) = sorts_lack fs name after_name p named strict after_strict q s counted e
+    no_sorts gs (inr y) = sorts_wrong fs name after_name p named strict after_strict q s counted y.0 gs y.1 y.2
 
-sound_line : (fs : List Field) (r : ℕ) → length fs ≤ 16385 → r ≡ judged_line fs → 65536 ≤ r → (wrong_field fs ≡ 0) × (r ≡ 65536 + (1 + length fs))
-sound_line fs r m e h = told_sound (wrong_field fs) (1 + length fs) r (e ∙ line_told fs) (line_within fs) (omega (arith, m)) h
+    module _ (sorts : Field) (after_sorts : List Field) (r : after_strict ≡ sorts ∷ after_sorts) (sorted : are_sorts s sorts ≡ true) where
+      pub no_result : (gs : List Field) → (after_sorts ≡ []) ⊎ ((f : Field) × (after_sorts ≡ f ∷ gs) × (is_result f ≡ false)) → Err 4 ≡ judged_line fs
+      no_result gs (inl e) = result_lacks fs name after_name p named strict after_strict q s counted sorts after_sorts r sorted e
+      no_result gs (inr y) = result_wrong fs name after_name p named strict after_strict q s counted sorts after_sorts r sorted y.0 gs y.1 y.2
+
+-- What was judged, told by the answer.
+wrong_is : (w n k : ℕ) → Err k ≡ outcome w n → (k ≡ w) × (k ≡ 0 → ⊥)
+unfolding outcome
+wrong_is zero n k e = cc
+wrong_is (suc w) n k e = let h : k ≡ suc w = cc in (h, λ z. omega arith)
+
+sound_is : (w n k : ℕ) → Ok k ≡ outcome w n → (w ≡ 0) × (k ≡ n)
+unfolding outcome
+sound_is zero n k e = (refl, cc)
+sound_is (suc w) n k e = cc
 
 -- Line by line.
+
+-- The function that a line is.
+abbrev pub as_line : Field → Line
+as_line p = line_of (pieces 9 p)
 
 pub lines_raw : (s : List ℕ) → lines s ≡ map (λ p. line_of (pieces 9 p)) (raw_lines s)
 unfolding lines raw_lines
 lines_raw s = refl
 
-judged_bad : (l w : ℕ) (others : Passed) → (w ≡ 0 → ⊥) → Refused 2 l w ≡ shown (judge_line l w others)
-unfolding judge_line shown no
+judged_bad : (l w : ℕ) (others : Passed) → (w ≡ 0 → ⊥) → judge_line l w others ≡ refused LINE l w
+unfolding judge_line
 judged_bad l zero others z = absurd (z refl)
 judged_bad l (suc k) others z = refl
 
-pub shape_none : (t : List ℕ) → length t ≡ 0 → Refused 2 1 1 ≡ shown (judge_shape t)
-unfolding judge_shape shown no
+pub shape_none : (t : List ℕ) → length t ≡ 0 → judge_shape t ≡ refused LINE 1 1
+unfolding judge_shape
 shape_none [] e = refl
 shape_none (x ∷ t) e = absurd (omega (arith, e))
 
@@ -218,59 +267,66 @@ unfolding judge_shape
 shape_some [] e = absurd (e refl)
 shape_some (x ∷ t) e = refl
 
-module _ (t : List ℕ) (at : ℕ) (h : length t ≤ at) where
-  pub shape_done : (l : ℕ) → Passes ≡ shown (judge_lines l (pieces 10 (drop at t)))
-  unfolding judge_lines pieces shown
-  shape_done l = rw (drop_of_length-le t h)
-
-  pub no_lines : raw_lines (drop at t) ≡ []
-  unfolding raw_lines pieces all_but_last
-  no_lines = rw (drop_of_length-le t h)
-
-module _ (t : List ℕ) (at e : ℕ) (h : at < length t) (q : e ≡ at + span 10 (drop at t)) where
-  cut : pieces 10 (drop at t) ≡ part t at e ∷ rest 10 (drop e t)
-  cut =
-      let n : e - at ≡ span 10 (drop at t) = omega (arith, q) in
-      rw (n, q, ← drop-drop (span 10 (drop at t)) at t) (first_piece 10 (drop at t))
-
-  open_end : length t ≤ e → pieces 10 (drop at t) ≡ drop at t ∷ []
-  open_end o =
-      let y : take (e - at) (drop at t) ≡ drop at t = take_all (e - at) (drop at t) (omega (arith, length-drop at t)) in
-      rw (cut, no_piece 10 t e o, y)
-
-  pub shape_open : (l : ℕ) → length t ≤ e → Refused 2 l 0 ≡ shown (judge_lines l (pieces 10 (drop at t)))
-  unfolding judge_lines shown no
-  shape_open l o = rw (open_end o, drop-cons t at 0)
-
-  pub lines_open : length t ≤ e → raw_lines (drop at t) ≡ []
+-- The lines of a text, one after the other: the first ends at e.
+module _ (t : List ℕ) (e : ℕ) (q : e ≡ 0 + span 10 (drop 0 t)) where
+  pub no_line : length t ≤ e → raw_lines t ≡ []
   unfolding raw_lines all_but_last
-  lines_open o = rw (open_end o)
+  no_line o = rw (first_cut 10 t e q, no_piece 10 t e o)
 
   -- What stands after the byte 10.
-  next_line : e < length t → rest 10 (drop e t) ≡ take (span 10 (drop (e + 1) t)) (drop (e + 1) t) ∷ rest 10 (drop (span 10 (drop (e + 1) t)) (drop (e + 1) t))
+  after_line : e < length t → rest 10 (drop e t) ≡ take (span 10 (drop (e + 1) t)) (drop (e + 1) t) ∷ rest 10 (drop (span 10 (drop (e + 1) t)) (drop (e + 1) t))
   unfolding rest
-  next_line o = rw (drop-cons t e 0, ← add-one e) (first_piece 10 (drop (e + 1) t))
+  after_line o = rw (drop-cons t e 0, ← add-one e) (first_piece 10 (drop (e + 1) t))
 
-  pub shape_bad : (l w : ℕ) → e < length t → w ≡ wrong_field (pieces 9 (part t at e)) → (w ≡ 0 → ⊥) → Refused 2 l w ≡ shown (judge_lines l (pieces 10 (drop at t)))
-  unfolding judge_lines
-  shape_bad l w o x z = rw (cut, next_line o, ← x) (judged_bad l w _ z)
-
-  pub shape_on : (l w : ℕ) → e < length t → w ≡ wrong_field (pieces 9 (part t at e)) → w ≡ 0 → judge_lines (l + 1) (pieces 10 (drop (e + 1) t)) ≡ judge_lines l (pieces 10 (drop at t))
-  unfolding judge_lines judge_line
-  shape_on l w o x z = rw (cut, next_line o, ← x, z, first_piece 10 (drop (e + 1) t))
-
-  pub one_line : e < length t → raw_lines (drop at t) ≡ part t at e ∷ raw_lines (drop (e + 1) t)
+  pub first_line : e < length t → raw_lines t ≡ take e t ∷ raw_lines (take (length t - (e + 1)) (drop (e + 1) t))
   unfolding raw_lines all_but_last
-  one_line o = rw (cut, next_line o, first_piece 10 (drop (e + 1) t))
+  first_line o = rw (rest_all t (e + 1), first_cut 10 t e q, after_line o, first_piece 10 (drop (e + 1) t))
 
-  pub more_lines : e < length t → lines (drop at t) ≡ line_of (pieces 9 (part t at e)) ∷ lines (drop (e + 1) t)
-  more_lines o = lines_raw (drop at t) ∙ ap (map (λ p. line_of (pieces 9 p))) (one_line o) ∙ ap (λ (hs : List Line). line_of (pieces 9 (part t at e)) ∷ hs) (sym (lines_raw (drop (e + 1) t)))
+-- Whether no byte is left after the last byte 10.
+unfoldable pub is_closed : List Field → Bool
+is_closed [] = true
+is_closed ([] ∷ []) = true
+is_closed ((x ∷ xs) ∷ []) = false
+is_closed (p ∷ q ∷ ps) = is_closed (q ∷ ps)
 
-  pub open_lines : length t ≤ e → lines (drop at t) ≡ []
-  open_lines o = lines_raw (drop at t) ∙ ap (map (λ p. line_of (pieces 9 p))) (lines_open o)
+-- The lines of a text judged one after the other, and what is left after them.
+unfoldable pub judge_each : ℕ → List Field → Bool → Passed
+judge_each l [] closed = if closed then fine tt else refused LINE l 0
+judge_each l (p ∷ ps) closed = judge_line l (wrong_field (pieces 9 p)) (judge_each (l + 1) ps closed)
 
-pub end_lines : (t : List ℕ) (at : ℕ) → length t ≤ at → lines (drop at t) ≡ []
-end_lines t at h = lines_raw (drop at t) ∙ ap (map (λ p. line_of (pieces 9 p))) (no_lines t at h)
+each_line : (l : ℕ) (ps : List Field) → judge_lines l ps ≡ judge_each l (all_but_last ps) (is_closed ps)
+unfolding judge_lines judge_each all_but_last is_closed
+each_line l [] = refl
+each_line l ([] ∷ []) = refl
+each_line l ((x ∷ xs) ∷ []) = refl
+each_line l (p ∷ q ∷ ps) = ap (judge_line l (wrong_field (pieces 9 p))) (each_line (l + 1) (q ∷ ps))
+
+pub shape_each : (t : List ℕ) → (length t ≡ 0 → ⊥) → judge_shape t ≡ judge_each 1 (raw_lines t) (is_closed (pieces 10 t))
+unfolding raw_lines
+shape_each t h = sym (shape_some t h) ∙ each_line 1 (pieces 10 t)
+
+closed_on : (x y : ℕ) (ps : List Field) (s t : Bool) → 0 < length ps →
+    is_closed (if s then [] ∷ (if t then [] ∷ ps else onto_first y ps) else onto_first x (if t then [] ∷ ps else onto_first y ps)) ≡ is_closed (if t then [] ∷ ps else onto_first y ps)
+unfolding onto_first is_closed
+closed_on x y [] s t h = absurd (omega (arith, h))
+closed_on x y (p ∷ ps) true true h = refl
+closed_on x y (p ∷ ps) false true h = refl
+closed_on x y (p ∷ ps) true false h = refl
+closed_on x y (p ∷ []) false false h = refl
+closed_on x y (p ∷ q ∷ ps) false false h = refl
+
+-- A text that is not empty is closed where its last byte is a byte 10.
+pub closed_by : (t : List ℕ) → (length t ≡ 0 → ⊥) → eqb (get_or t (length t - 1) 0) 10 ≡ is_closed (pieces 10 t)
+unfolding pieces is_closed onto_first
+closed_by [] h = absurd (h refl)
+closed_by (x ∷ []) h = by_test (eqb x 10)
+  where
+    by_test : (t : Bool) → t ≡ is_closed (if t then [] ∷ [] ∷ [] else (x ∷ []) ∷ [])
+    by_test true = refl
+    by_test false = refl
+closed_by (x ∷ y ∷ t) h =
+    let n : suc (suc (length t)) - 1 ≡ suc (suc (length t) - 1) = omega arith in
+    rw n (closed_by (y ∷ t) (λ e. omega (arith, e)) ∙ sym (closed_on x y (pieces 10 t) (eqb x 10) (eqb y 10) (omega (arith, piece_count 10 t))))
 
 -- A text whose shape passes has only lines of the right shape.
 right_lines : (l : ℕ) (ps : List Field) → judge_lines l ps ≡ fine tt → Right (all_but_last ps)
@@ -286,18 +342,14 @@ unfolding judge_shape raw_lines
 right_shape [] e = let z : ◌≡◌ {A = ℕ} 0 1 = cc in absurd (omega arith)
 right_shape (x ∷ t) e = right_lines 1 (pieces 10 (x ∷ t)) e
 
--- Counts.
+-- Counted.
 
-pub few_tabs : (l : List ℕ) (n : ℕ) → n ≡ occurrences 9 l → n < 3 → 0 ≡ body_fields l
+pub body_tabs : (l : List ℕ) (n : ℕ) → n ≡ occurrences 9 l → n - 3 ≡ body_fields l
 unfolding body_fields
-few_tabs l n x h = omega (arith, length-drop 4 (pieces 9 l), piece_count 9 l)
+body_tabs l n x = omega (arith, length-drop 4 (pieces 9 l), piece_count 9 l)
 
-pub more_tabs : (l : List ℕ) (n : ℕ) → n ≡ occurrences 9 l → 3 ≤ n → n - 3 ≡ body_fields l
-unfolding body_fields
-more_tabs l n x h = omega (arith, length-drop 4 (pieces 9 l), piece_count 9 l)
-
-pub over_functions : (L : List Line) (n : ℕ) → n ≡ length L → 64 < n → Refused 3 65 0 ≡ shown (judge_counts L)
-unfolding judge_counts shown no
+pub over_functions : (L : List Line) (n : ℕ) → n ≡ length L → 64 < n → Err (refusal COUNT 65 0) ≡ shown (judge_counts L)
+unfolding judge_counts found
 over_functions L n x h = rw (lt-leb (length L) 64 (omega (arith, x)))
 
 pub few_functions : (L : List Line) (n : ℕ) → n ≡ length L → n ≤ 64 → judge_symbols 1 0 L ≡ judge_counts L
@@ -309,99 +361,92 @@ unfolding judge_symbols total
 all_symbols l seen [] h = refl
 all_symbols l seen (k ∷ L) h = rw (le-leb (seen + length k.body) 1024 (omega (arith, h))) (all_symbols (l + 1) (seen + length k.body) L (omega (arith, h)))
 
-pub few_symbols : (L : List Line) (n : ℕ) → n ≡ total L → n ≤ 1024 → Passes ≡ shown (judge_symbols 1 0 L)
-unfolding shown
+pub few_symbols : (L : List Line) (n : ℕ) → n ≡ total L → n ≤ 1024 → Ok tt ≡ shown (judge_symbols 1 0 L)
+unfolding found
 few_symbols L n x h = rw (all_symbols 1 0 L (omega (arith, x)))
-
-pub symbols_done : (t : List ℕ) (at l seen : ℕ) → lines (drop at t) ≡ [] → Passes ≡ shown (judge_symbols l seen (lines (drop at t)))
-unfolding judge_symbols shown
-symbols_done t at l seen e = rw e
 
 pub body_length : (p : Field) → length (line_of (pieces 9 p)).body ≡ body_fields p
 unfolding line_of body_fields
 body_length p = refl
 
-module _ (t : List ℕ) (at e l seen n : ℕ) (x : n ≡ body_fields (part t at e)) (y : lines (drop at t) ≡ line_of (pieces 9 (part t at e)) ∷ lines (drop (e + 1) t)) where
-  pub over_symbols : (k : ℕ) → 1024 < seen + n → seen ≤ 1024 → k ≡ 1029 - seen → Refused 3 l k ≡ shown (judge_symbols l seen (lines (drop at t)))
-  unfolding judge_symbols shown no
-  over_symbols k h o z =
-      let m : 1029 - seen ≡ 4 + (1025 - seen) = omega arith in
-      rw (y, body_length (part t at e), ← x, lt-leb (seen + n) 1024 h, z, m)
+pub symbols_begin : (t : List ℕ) → judge_symbols (0 + 1) 0 (map as_line (raw_lines t)) ≡ judge_symbols 1 0 (lines t)
+symbols_begin t = let n : 0 + 1 ≡ 1 = omega arith in rw (n, lines_raw t)
 
-  pub some_symbols : seen + n ≤ 1024 → judge_symbols (l + 1) (seen + n) (lines (drop (e + 1) t)) ≡ judge_symbols l seen (lines (drop at t))
+pub symbols_done : (l seen : ℕ) (ps : List Field) → ps ≡ [] → Ok tt ≡ shown (judge_symbols l seen (map as_line ps))
+unfolding judge_symbols found
+symbols_done l seen ps e = rw e
+
+module _ (l seen n : ℕ) (p : Field) (ps qs : List Field) (x : n ≡ body_fields p) (y : ps ≡ p ∷ qs) where
+  pub over_symbols : 1024 < seen + n → seen ≤ 1024 → Err (refusal COUNT l (1029 - seen)) ≡ shown (judge_symbols l seen (map as_line ps))
+  unfolding judge_symbols found
+  over_symbols h o =
+      let m : 1029 - seen ≡ 4 + (1025 - seen) = omega arith in
+      rw (y, body_length p, ← x, lt-leb (seen + n) 1024 h, m)
+
+  pub some_symbols : seen + n ≤ 1024 → judge_symbols (l + 1) (seen + n) (map as_line qs) ≡ judge_symbols l seen (map as_line ps)
   unfolding judge_symbols
-  some_symbols h = rw (y, body_length (part t at e), ← x, le-leb (seen + n) 1024 h)
+  some_symbols h = rw (y, body_length p, ← x, le-leb (seen + n) 1024 h)
 
 -- NAME by packed names.
 
-module _ (M : List ℕ) (i n : ℕ) where
-  pub held_end : length M ≤ i → false ≡ is_held n (drop i M)
-  unfolding is_held
-  held_end h = rw (drop_of_length-le M h)
-
-  pub held_here : i < length M → n ≡ get_or M i 0 → true ≡ is_held n (drop i M)
-  unfolding is_held
-  held_here h e = rw (drop-cons M i 0, eq-eqb n (get_or M i 0) e)
-
-  pub held_on : i < length M → (n ≡ get_or M i 0 → ⊥) → is_held n (drop (i + 1) M) ≡ is_held n (drop i M)
-  unfolding is_held
-  held_on h e = rw (drop-cons M i 0, ne_eqb n (get_or M i 0) e, add-one i)
+-- Whether a name is one of some, as the library's `contains` tests it.
+held_as : (M : List ℕ) (n : ℕ) → list_any (λ m. eqb m n) M ≡ is_held n M
+unfolding is_held
+held_as [] n = refl
+held_as (m ∷ M) n = rw (held_as M n) (ap (λ (t : Bool). t || is_held n M) (either_way (eqb m n) (eqb n m) refl refl))
+  where
+    either_way : (s t : Bool) → eqb m n ≡ s → eqb n m ≡ t → s ≡ t
+    either_way true true p q = refl
+    either_way false false p q = refl
+    either_way true false p q = absurd (eqb-false n m q (sym (eqb-true m n p)))
+    either_way false true p q = absurd (eqb-false m n p (sym (eqb-true n m q)))
 
 module _ (M : List ℕ) (n l : ℕ) where
-  pub names_end : length M ≤ n → Passes ≡ shown (judge_packed l (take n M) (drop n M))
-  unfolding judge_packed shown
+  pub names_end : length M ≤ n → Ok tt ≡ shown (judge_packed l (take n M) (drop n M))
+  unfolding judge_packed found
   names_end h = rw (drop_of_length-le M h)
 
-  before : take (n - 0) (drop 0 M) ≡ take n M
-  before = let e : n - 0 ≡ n = omega arith in rw e
+  pub name_again : (v : Bool) → n < length M → v ≡ list_any (λ m. eqb m (get_or M n 0)) (take n M) → v ≡ true → Err (refusal NAME l 1) ≡ shown (judge_packed l (take n M) (drop n M))
+  unfolding judge_packed found
+  name_again v h x e = rw (drop-cons M n 0, ← (x ∙ held_as (take n M) (get_or M n 0)), e)
 
-  pub name_again : (v : Bool) → n < length M → v ≡ is_held (get_or M n 0) (take (n - 0) (drop 0 M)) → v ≡ true → Refused 4 l 1 ≡ shown (judge_packed l (take n M) (drop n M))
-  unfolding judge_packed shown no
-  name_again v h x e = rw (drop-cons M n 0, ← (x ∙ ap (is_held (get_or M n 0)) before), e)
-
-  pub name_new : (v : Bool) → n < length M → v ≡ is_held (get_or M n 0) (take (n - 0) (drop 0 M)) → v ≡ false → judge_packed (l + 1) (take (n + 1) M) (drop (n + 1) M) ≡ judge_packed l (take n M) (drop n M)
+  pub name_new : (v : Bool) → n < length M → v ≡ list_any (λ m. eqb m (get_or M n 0)) (take n M) → v ≡ false → judge_packed (l + 1) (take (n + 1) M) (drop (n + 1) M) ≡ judge_packed l (take n M) (drop n M)
   unfolding judge_packed
-  name_new v h x e = rw (drop-cons M n 0, ← (x ∙ ap (is_held (get_or M n 0)) before), e, add-one n, take-suc M n 0)
+  name_new v h x e = rw (drop-cons M n 0, ← (x ∙ held_as (take n M) (get_or M n 0)), e, add-one n, take-suc M n 0)
 
 -- Sorts as a mask.
 
-pub as_visible : (l : List ℕ) (at : ℕ) → at < length l → judged_from 5 [] (rest 9 (drop at l)) ≡ judged_from 5 (is_visible ∷ []) (rest 9 (drop at l))
-unfolding judged_from
-as_visible l at h = rw (opened l at (at + 1 + span 9 (drop (at + 1) l)) h refl)
-
-pub none : (n : ℕ) → n - n ≡ 0
-none n = omega arith
-
-pub mask_none : (f : List ℕ) → 0 ≡ mask (map sort_of (drop (length f) f))
-unfolding mask
-mask_none f = rw (drop_of_length-le f {i = length f} (omega arith))
-
-sort_bit_is : (x : ℕ) → sort_number (sort_of x) ≡ bit x
+sort_bit_is : (x : ℕ) → from_bool (eqb x 98) ≡ sort_number (sort_of x)
 unfolding sort_number sort_of
 sort_bit_is x = by_test (eqb x 98)
   where
-    by_test : (t : Bool) → sort_number (if t then yes_no else number) ≡ (if t then 1 else 0)
+    by_test : (t : Bool) → from_bool t ≡ sort_number (if t then yes_no else number)
     by_test true = refl
     by_test false = refl
 
-pub mask_room : (m k : ℕ) → k ≤ 7 → m < 2 ^ k → m < 128
-mask_room m k h l = omega (arith, pow-le-pow_right {n = 2} (omega arith) h)
+sort_small : (s : Sort) → sort_number s ≤ 1
+unfolding sort_number
+sort_small number = omega arith
+sort_small yes_no = omega arith
 
-pub mask_back : (f : List ℕ) (i b m : ℕ) → 0 < i → i ≤ length f → b ≡ bit (get_or f (i - 1) 0) → m ≡ mask (map sort_of (drop i f)) → b + 2 * m ≡ mask (map sort_of (drop (i - 1) f))
+-- A mask has as many bits as there are sorts.
+mask_below : (f : List ℕ) → mask (map sort_of f) < 2 ^ length f
 unfolding mask
-mask_back f i b m h k x y =
-    let e : suc (i - 1) ≡ i = omega arith in
-    let opens : drop (i - 1) f ≡ get_or f (i - 1) 0 ∷ drop i f = drop-cons f (i - 1) 0 (omega arith) ∙ ap (λ (k : ℕ). get_or f (i - 1) 0 ∷ drop k f) e in
-    rw (opens, sort_bit_is (get_or f (i - 1) 0), ← x, ← y)
+mask_below [] = omega arith
+mask_below (x ∷ f) = rw (pow-succ' 2 (length f)) (omega (arith, mask_below f, sort_small (sort_of x)))
 
-pub bits_back : (n i b m : ℕ) → 0 < i → i ≤ n → b ≤ 1 → m < 2 ^ (n - i) → b + 2 * m < 2 ^ (n - (i - 1))
-bits_back n i b m h k x y =
-    let e : n - (i - 1) ≡ suc (n - i) = omega arith in
-    rw (e, pow-succ' 2 (n - i)) (omega arith)
+-- One more sort below those of a mask, as the code puts it: by a shift and an or.
+abbrev pub onto_mask : ℕ → ℕ → ℕ
+onto_mask m x = bit_or (m * 2 % 4294967296) (from_bool (eqb x 98))
 
-pub mask_all : (f : List ℕ) (i m : ℕ) → length f ≤ 8 → i ≤ 0 → m ≡ mask (map sort_of (drop i f)) → m < 2 ^ (length f - i) → (m ≡ mask (map sort_of f)) × (m < 256)
-mask_all f i m h k x y =
-    (x ∙ ap (λ (l : List ℕ). mask (map sort_of l)) (at_start f i k), omega (arith, pow-le-pow_right {n = 2} (omega arith) {i = length f - i} {j = 8} (omega arith)))
+-- The sorts from the last to the first, one after the other.
+pub mask_fold : (f : List ℕ) → length f ≤ 8 → fold onto_mask 0 (reverse f) ≡ mask (map sort_of f)
+unfolding mask
+mask_fold [] l = refl
+mask_fold (x ∷ f) l =
+    let below : mask (map sort_of f) < 128 = omega (arith, mask_below f, pow-le-pow_right {n = 2} (omega arith) {i = length f} {j = 7} (omega (arith, l))) in
+    let whole : mask (map sort_of f) * 2 % 4294967296 ≡ mask (map sort_of f) * 2 = shl_whole (mask (map sort_of f)) 7 1 32 below (omega arith) in
+    rw (reverse-append (x ∷ []) f, fold-append onto_mask 0 (reverse f) (x ∷ []), mask_fold f (omega (arith, l)), whole, sort_bit_is x, or_shifted (mask (map sort_of f)) 1 (sort_number (sort_of x)) (omega (arith, sort_small (sort_of x)))) (omega arith)
 
 -- The forms of a line of the right shape.
 
@@ -495,10 +540,6 @@ pub few_sorts : (s : ℕ) (f : Field) → are_sorts s f ≡ true → length f �
 unfolding are_sorts
 few_sorts s f e = leb-true (length f) 8 (and_right (leb 1 (length f)) (leb (length f) 8) (and_left (leb 1 (length f) && leb (length f) 8) _ e))
 
-pub strict_few : (s : ℕ) (f : Field) → are_sorts s f ≡ true → s ≤ length f
-unfolding are_sorts
-strict_few s f e = leb-true s (length f) (and_left (leb s (length f)) (all is_sort f) (and_right (leb 1 (length f) && leb (length f) 8) _ e))
-
 one_result : (f : Field) → is_result f ≡ true → 1 ≤ length f
 unfolding is_result
 one_result [] e = let z : ◌≡◌ {A = ℕ} 0 1 = cc in absurd (omega arith)
@@ -536,43 +577,21 @@ module _ (l : List ℕ) (a b c d : ℕ) (p : Parted l a b c d) (w : wrong_field 
   pub strict_digit : (48 ≤ get_or l (a + 1) 0) × (get_or l (a + 1) 0 ≤ 56) × (length (part l (b + 1) c) ≤ 8)
   strict_digit = (omega (arith, digit_part.1, digit_head), omega (arith, digit_part.2, digit_head), few_sorts _ (part l (b + 1) c) shaped.sorts_form)
 
+  whole : part l 0 a ≡ take a l
+  whole = let n : a - 0 ≡ a = omega arith in rw n
+
+  pub name_fits_8 : length (take a l) ≤ 8
+  name_fits_8 = short_name (take a l) (ap is_name (sym whole) ∙ shaped.name_form)
+
+  pub named_by : packed (take a l) ≡ name_number (line_of (pieces 9 l))
+  unfolding name_number line_of
+  named_by = rw (p.fields, whole)
+
   pub signed : signature (map sort_of (part l (b + 1) c)) (get_or l (a + 1) 0 - 48) (sort_of (get_or l (c + 1) 0)) ≡ line_signature (line_of (pieces 9 l))
   unfolding line_signature line_of
   signed =
       let v : value (part l (a + 1) b) ≡ get_or l (a + 1) 0 - 48 = digit_part.3 ∙ ap (λ (k : ℕ). k - 48) digit_head in
       rw (p.fields, v, result_head)
-
-module _ (l : List ℕ) (e : ℕ) (q : e ≡ 0 + span 9 (drop 0 l)) (w : wrong_field (pieces 9 l) ≡ 0) where
-  pub name_fits_8 : length (part l 0 e) ≤ 8
-  name_fits_8 = short_name (part l 0 e) (ap (λ (fs : List Field). is_name (get_or fs 0 [])) (sym (first_field l e q)) ∙ (right_forms (pieces 9 l) w).name_form)
-
-  pub named_by : packed (part l 0 e) ≡ name_number (line_of (pieces 9 l))
-  unfolding name_number line_of
-  named_by = rw (first_field l e q)
-
--- The strict count is one byte: the second tab stands two bytes after the first.
-module _ (l : List ℕ) (e : ℕ) (q : e ≡ 0 + span 9 (drop 0 l)) (w : wrong_field (pieces 9 l) ≡ 0) where
-  abbrev second : ℕ
-  second = e + 1 + span 9 (drop (e + 1) l)
-
-  one_digit : length (part l (e + 1) second) ≡ 1
-  one_digit =
-      (one_of (part l (e + 1) second) (ap (λ (fs : List Field). is_count (get_or fs 1 [])) (sym (first_field l e q ∙ ap (λ (fs : List Field). part l 0 e ∷ fs) (opened l e second (tab_1 l e q w) refl))) ∙ (right_forms (pieces 9 l) w).strict_form)).0
-
-  strict_tab : e + 2 ≡ e + 1 + span 9 (drop (e + 1) l)
-  strict_tab =
-      omega (arith, one_digit, length-take-le (second - (e + 1)) (drop (e + 1) l) (omega (arith, tab_2 l e q w second refl, length-drop (e + 1) l)))
-
-  pub sorts_begin : e + 2 < length l
-  sorts_begin = tab_2 l e q w (e + 2) strict_tab
-
-  pub sorts_tab : (c : ℕ) → c ≡ e + 2 + 1 + span 9 (drop (e + 2 + 1) l) → Parted l e (e + 2) c (c + 1 + span 9 (drop (c + 1) l))
-  sorts_tab c x = tab_4 l e q w (e + 2) strict_tab c x (c + 1 + span 9 (drop (c + 1) l)) refl
-
--- A signature from its parts.
-pub signed_as : (n b m s : ℕ) (f : Field) (d r : ℕ) → n ≡ length f → b ≡ bit r → m ≡ mask (map sort_of f) → s ≡ d → n + 16 * b + 32 * m + 8192 * s ≡ signature (map sort_of f) d (sort_of r)
-unfolding signature
-signed_as n b m s f d r x y z w = rw (length-map f sort_of, sort_bit_is r, ← x, ← y, ← z, ← w)
 
 -- The first line is right, and the others are.
 pub right_here : (ps : List Field) (p : Field) (qs : List Field) → Right ps → ps ≡ p ∷ qs → (wrong_field (pieces 9 p) ≡ 0) × Right qs
@@ -589,26 +608,15 @@ unfolding occurrences
 occurs_within b [] = omega arith
 occurs_within b (x ∷ xs) = occurs_by b x xs (eqb x b) (occurs_within b xs)
 
-take_within : (n : ℕ) (l : List ℕ) → length (take n l) ≤ length l
-take_within zero l = omega arith
-take_within (suc n) [] = omega arith
-take_within (suc n) (x ∷ l) = omega (arith, take_within n l)
-
-fields_within : (p : Field) → length (pieces 9 p) ≤ length p + 1
+pub fields_within : (p : Field) → length (pieces 9 p) ≤ length p + 1
 fields_within p = omega (arith, piece_count 9 p, occurs_within 9 p)
 
-part_within : (t : List ℕ) (at e : ℕ) → length (part t at e) ≤ length t
-part_within t at e = omega (arith, take_within (e - at) (drop at t), length-drop at t)
-
-body_less : (p : Field) → body_fields p ≤ length p
+pub body_less : (p : Field) → body_fields p ≤ length p
 unfolding body_fields
 body_less p = omega (arith, length-drop 4 (pieces 9 p), fields_within p)
 
-pub body_within : (t : List ℕ) (at e n : ℕ) → n ≡ body_fields (part t at e) → n ≤ length t
-body_within t at e n x = omega (arith, x, body_less (part t at e), part_within t at e)
-
 -- All bodies together have no more symbols than the text has bytes.
-abbrev lengths : List Field → ℕ
+abbrev pub lengths : List Field → ℕ
 lengths [] = 0
 lengths (p ∷ ps) = length p + lengths ps
 
@@ -630,7 +638,7 @@ lengths_less [] = omega arith
 lengths_less (p ∷ []) = omega arith
 lengths_less (p ∷ q ∷ ps) = omega (arith, lengths_less (q ∷ ps))
 
-raw_within : (t : List ℕ) → lengths (raw_lines t) + length (raw_lines t) ≤ length t
+pub raw_within : (t : List ℕ) → lengths (raw_lines t) + length (raw_lines t) ≤ length t
 unfolding raw_lines
 raw_within t = omega (arith, lengths_less (pieces 10 t), lengths_within 10 t)
 
@@ -680,94 +688,110 @@ pub shaped_within : (t : List ℕ) → Right (raw_lines t) → 8 * length (lines
 shaped_within t r =
     omega (arith, ap total (lines_raw t), ap length (lines_raw t), length-map (raw_lines t) (λ p. line_of (pieces 9 p)), right_bytes (raw_lines t) r, raw_within t)
 
+-- What `map_err` was given where it answers an error, and where it answers none.
+pub err_before : {E F A : Type 0} (r : Result A E) (s : Result A F) (P Q : E → F → Type 0) (x : F) → MatchResult r (λ a. s ≡ Ok a) (λ e. IsErrAnd s (P e)) → s ≡ Err x → ((e : E) → P e x → Q e x) →
+    (e : E) × (r ≡ Err e) × Q e x
+err_before (Ok a) s P Q x m e k = cc
+err_before (Err d) s P Q x m e k = (d, refl, k d (rw e at m))
+
+pub ok_before : {E F A : Type 0} (r : Result A E) (s : Result A F) (P : E → F → Type 0) (a : A) → MatchResult r (λ a. s ≡ Ok a) (λ e. IsErrAnd s (P e)) → s ≡ Ok a → r ≡ Ok a
+ok_before (Ok b) s P a m e = cc
+ok_before (Err d) s P a m e = absurd (rw e at m)
+
 -- The scan, line by line: what was written before line n, counted from 0, and what is still to come.
 
-pub record Scanning (text names₀ names heads₀ heads : List ℕ) (at n symbols : ℕ) : Type 0 where
-  pub place : n ≤ at
-  pub shape : judge_lines (n + 1) (pieces 10 (drop at text)) ≡ judge_shape text
-  pub lines_left : n + length (lines (drop at text)) ≡ length (lines text)
-  pub symbols_left : symbols + total (lines (drop at text)) ≡ total (lines text)
+pub record Scanning (text names₀ names : List ℕ) (heads₀ heads : List Signature) (left : List Field) (n symbols : ℕ) : Type 0 where
+  pub place : n + (lengths left + length left) ≤ length text
+  pub shape : judge_each (n + 1) left (is_closed (pieces 10 text)) ≡ judge_shape text
+  pub lines_left : n + length left ≡ length (lines text)
+  pub symbols_left : symbols + total (map as_line left) ≡ total (lines text)
   pub names_length : length names ≡ length names₀
   pub heads_length : length heads ≡ length heads₀
-  pub names_left : sets names n (map name_number (lines (drop at text))) ≡ sets names₀ 0 (map name_number (lines text))
-  pub heads_left : sets heads n (map line_signature (lines (drop at text))) ≡ sets heads₀ 0 (map line_signature (lines text))
+  pub names_left : sets names n (map name_number (map as_line left)) ≡ sets names₀ 0 (map name_number (lines text))
+  pub heads_left : sets heads n (map line_signature (map as_line left)) ≡ sets heads₀ 0 (map line_signature (lines text))
 
-pub scan_begins : (t names heads : List ℕ) → (length t ≡ 0 → ⊥) → Scanning t names names heads heads 0 0 0
+pub scan_begins : (t names : List ℕ) (heads : List Signature) → (length t ≡ 0 → ⊥) → Scanning t names names heads heads (raw_lines t) 0 0
 scan_begins t names heads h =
-    record { place = omega arith; shape = shape_some t h; lines_left = omega arith; symbols_left = omega arith; names_length = refl; heads_length = refl; names_left = refl; heads_left = refl }
-
-pub misfit_at : (l m k : ℕ) → l ≡ m → record { number = 2; line = l; field = k; functions = 0; symbols = 0 } ≡ misfit m k
-unfolding misfit no
-misfit_at l m k e = rw e
-
-pub scan_refused : (t names names' heads heads' : List ℕ) (l k : ℕ) (r : Scanned) → r ≡ misfit l k → Refused 2 l k ≡ shown (judge_shape t) → Scan t names names' heads heads' r
-unfolding misfit judgement no
-scan_refused t names names' heads heads' l k r e x =
-    let z : r.number ≡ 2 = ap (λ (s : Scanned). s.number) e in
+    let n : 0 + 1 ≡ 1 = omega arith in
+    let e : map as_line (raw_lines t) ≡ lines t = sym (lines_raw t) in
     record {
-      shape_judged = ap (λ (s : Scanned). judgement s.number s.line s.field) e ∙ x;
-      lines_counted = λ y. absurd (omega (arith, y, z));
-      symbols_counted = λ y. absurd (omega (arith, y, z));
-      names_filled = λ y m. absurd (omega (arith, y, z));
-      heads_filled = λ y m. absurd (omega (arith, y, z));
+      place = omega (arith, raw_within t);
+      shape = rw n (sym (shape_each t h));
+      lines_left = omega (arith, ap length e, length-map (raw_lines t) as_line);
+      symbols_left = omega (arith, ap total e);
+      names_length = refl;
+      heads_length = refl;
+      names_left = rw e;
+      heads_left = rw e;
     }
 
-module _ (t names₀ names heads₀ heads : List ℕ) (at n symbols : ℕ) (i : Scanning t names₀ names heads₀ heads at n symbols) where
-  pub scan_ends : length t ≤ at → Scan t names₀ names heads₀ heads (record { number = 0; line = 0; field = 0; functions = n; symbols = symbols })
-  unfolding judgement total sets
-  scan_ends h =
-      let x = end_lines t at h in
+-- A refused shape.
+scan_refused : (t names names' : List ℕ) (heads heads' : List Signature) (l k : ℕ) → judge_shape t ≡ refused LINE l k → Scan t names names' heads heads' (Err (misfit l k))
+unfolding found
+scan_refused t names names' heads heads' l k x =
+    record {
+      shape_judged = rw x;
+      names_filled = λ y m. cc;
+      heads_filled = λ y m. cc;
+    }
+
+pub scan_empty : (t names : List ℕ) (heads : List Signature) → length t ≡ 0 → Scan t names names heads heads (Err (misfit 1 1))
+scan_empty t names heads e = scan_refused t names names heads heads 1 1 (shape_none t e)
+
+-- No line is left: the text is closed, or it is not.
+module _ (t names₀ names : List ℕ) (heads₀ heads : List Signature) (left : List Field) (n symbols : ℕ) (i : Scanning t names₀ names heads₀ heads left n symbols) (none : left ≡ []) (some : length t ≡ 0 → ⊥) where
+  ends : judge_each (n + 1) [] (eqb (get_or t (length t - 1) 0) 10) ≡ judge_shape t
+  ends = rw (closed_by t some) (ap (λ (ps : List Field). judge_each (n + 1) ps (is_closed (pieces 10 t))) (sym none) ∙ i.shape)
+
+  pub scan_open : (get_or t (length t - 1) 0 ≡ 10 → ⊥) → Scan t names₀ names heads₀ heads (Err (misfit (n + 1) 0))
+  unfolding judge_each
+  scan_open o = scan_refused t names₀ names heads₀ heads (n + 1) 0 (sym ends ∙ rw (ne_eqb (get_or t (length t - 1) 0) 10 o))
+
+  pub scan_ends : get_or t (length t - 1) 0 ≡ 10 → Scan t names₀ names heads₀ heads (Ok (record { functions = n; symbols = symbols }))
+  unfolding judge_each total sets found
+  scan_ends o =
+      let c : n ≡ length (lines t) = omega (arith, i.lines_left, ap length none) in
+      let s : symbols ≡ total (lines t) = omega (arith, i.symbols_left, ap (λ (ps : List Field). total (map as_line ps)) none) in
+      let j : judge_shape t ≡ fine tt = sym ends ∙ rw (eq-eqb (get_or t (length t - 1) 0) 10 o) in
       record {
-        shape_judged = shape_done t at h (n + 1) ∙ ap shown i.shape;
-        lines_counted = λ y. omega (arith, i.lines_left, ap length x);
-        symbols_counted = λ y. omega (arith, i.symbols_left, ap total x);
-        names_filled = λ y m. sym (ap (λ (L : List Line). sets names n (map name_number L)) x) ∙ i.names_left ∙ sets_splice names₀ 0 (map name_number (lines t)) (omega (arith, m, length-map (lines t) name_number));
-        heads_filled = λ y m. sym (ap (λ (L : List Line). sets heads n (map line_signature L)) x) ∙ i.heads_left ∙ sets_splice heads₀ 0 (map line_signature (lines t)) (omega (arith, m, length-map (lines t) line_signature));
+        shape_judged = rw (j, c, s);
+        names_filled = λ y m. sym (ap (λ (ps : List Field). sets names n (map name_number (map as_line ps))) none) ∙ i.names_left ∙ sets_splice names₀ 0 (map name_number (lines t)) (omega (arith, m, length-map (lines t) name_number));
+        heads_filled = λ y m. sym (ap (λ (ps : List Field). sets heads n (map line_signature (map as_line ps))) none) ∙ i.heads_left ∙ sets_splice heads₀ 0 (map line_signature (lines t)) (omega (arith, m, length-map (lines t) line_signature));
       }
 
-  module _ (e : ℕ) (h : at < length t) (q : e ≡ at + span 10 (drop at t)) where
-    pub scan_open : (names' heads' : List ℕ) (r : Scanned) → length t ≤ e → r ≡ misfit (n + 1) 0 → Scan t names₀ names' heads₀ heads' r
-    scan_open names' heads' r o x = scan_refused t names₀ names' heads₀ heads' (n + 1) 0 r x (shape_open t at e h q (n + 1) o ∙ ap shown i.shape)
+-- One line.
+module _ (t names₀ names : List ℕ) (heads₀ heads : List Signature) (left : List Field) (n symbols : ℕ) (i : Scanning t names₀ names heads₀ heads left n symbols) (p : Field) (next : List Field) (e : left ≡ p ∷ next) where
+  pub scan_wrong : (w : ℕ) (r : Result ℕ ℕ) → r ≡ Err w → r ≡ judged_line (pieces 9 p) → Scan t names₀ names heads₀ heads (Err (misfit (n + 1) w))
+  unfolding judged_line judge_each
+  scan_wrong w r x y =
+      let k = wrong_is (wrong_field (pieces 9 p)) _ w (sym x ∙ y) in
+      scan_refused t names₀ names heads₀ heads (n + 1) w (sym i.shape ∙ rw (e, ← k.0) (judged_bad (n + 1) w _ k.1))
 
-    pub scan_wrong : (names' heads' : List ℕ) (w : ℕ) (r : Scanned) → e < length t → w ≡ judged_line (pieces 9 (part t at e)) → w < 65536 → r ≡ misfit (n + 1) w → Scan t names₀ names' heads₀ heads' r
-    scan_wrong names' heads' w r o y z x =
-        let k = wrong_line (pieces 9 (part t at e)) w y z in
-        scan_refused t names₀ names' heads₀ heads' (n + 1) w r x (shape_bad t at e h q (n + 1) w o k.0 k.1 ∙ ap shown i.shape)
+  module _ (w : ℕ) (r : Result ℕ ℕ) (x : r ≡ Ok w) (y : r ≡ judged_line (pieces 9 p)) where
+    sound_part : (wrong_field (pieces 9 p) ≡ 0) × (w ≡ body_fields p)
+    unfolding judged_line body_fields
+    sound_part = sound_is (wrong_field (pieces 9 p)) _ w (sym x ∙ y)
 
-    module _ (w : ℕ) (o : e < length t) (m : length t ≤ 16384) (y : w ≡ judged_line (pieces 9 (part t at e))) (z : 65536 ≤ w) where
-      sound_part : (wrong_field (pieces 9 (part t at e)) ≡ 0) × (w ≡ 65536 + (1 + length (pieces 9 (part t at e))))
-      sound_part = sound_line (pieces 9 (part t at e)) w (omega (arith, fields_within (part t at e), part_within t at e)) y z
+    pub scan_right : wrong_field (pieces 9 p) ≡ 0
+    scan_right = sound_part.0
 
-      pub scan_right : wrong_field (pieces 9 (part t at e)) ≡ 0
-      scan_right = sound_part.0
+    next_total : total (map as_line left) ≡ w + total (map as_line next)
+    unfolding total
+    next_total = ap (λ (ps : List Field). total (map as_line ps)) e ∙ ap (λ (k : ℕ). k + total (map as_line next)) (body_length p ∙ sym sound_part.1)
 
-      pub scan_fields : 65541 ≤ w
-      scan_fields = omega (arith, sound_part.1, (right_forms (pieces 9 (part t at e)) scan_right).enough)
+    pub scan_room : symbols + w ≤ length t
+    scan_room = omega (arith, i.symbols_left, next_total, total_within t)
 
-      next : lines (drop at t) ≡ line_of (pieces 9 (part t at e)) ∷ lines (drop (e + 1) t)
-      next = more_lines t at e h q o
-
-      body_count : w - 65541 ≡ body_fields (part t at e)
-      unfolding body_fields
-      body_count = omega (arith, sound_part.1, length-drop 4 (pieces 9 (part t at e)))
-
-      next_total : total (lines (drop at t)) ≡ w - 65541 + total (lines (drop (e + 1) t))
-      unfolding total
-      next_total = ap total next ∙ ap (λ (k : ℕ). k + total (lines (drop (e + 1) t))) (body_length (part t at e) ∙ sym body_count)
-
-      pub scan_room : symbols + (w - 65541) ≤ 16384
-      scan_room = omega (arith, i.symbols_left, next_total, total_within t, m)
-
-      pub scan_on : (names' heads' : List ℕ) → names' ≡ set names n (name_number (line_of (pieces 9 (part t at e)))) → heads' ≡ set heads n (line_signature (line_of (pieces 9 (part t at e)))) →
-          Scanning t names₀ names' heads₀ heads' (e + 1) (n + 1) (symbols + (w - 65541))
-      scan_on names' heads' a b =
-          record {
-            place = omega (arith, i.place, q);
-            shape = shape_on t at e h q (n + 1) 0 o (sym scan_right) refl ∙ i.shape;
-            lines_left = omega (arith, i.lines_left, ap length next);
-            symbols_left = omega (arith, i.symbols_left, next_total);
-            names_length = ap length a ∙ length-set names n _ ∙ i.names_length;
-            heads_length = ap length b ∙ length-set heads n _ ∙ i.heads_length;
-            names_left = sets_on names names' n _ _ _ a (ap (map name_number) next) ∙ i.names_left;
-            heads_left = sets_on heads heads' n _ _ _ b (ap (map line_signature) next) ∙ i.heads_left;
-          }
+    pub scan_on : (names' : List ℕ) (heads' : List Signature) → names' ≡ set names n (name_number (as_line p)) → heads' ≡ set heads n (line_signature (as_line p)) → Scanning t names₀ names' heads₀ heads' next (n + 1) (symbols + w)
+    unfolding judge_each judge_line
+    scan_on names' heads' a b =
+        record {
+          place = omega (arith, i.place, ap lengths e, ap length e);
+          shape = sym (rw (e, scan_right)) ∙ i.shape;
+          lines_left = omega (arith, i.lines_left, ap length e);
+          symbols_left = omega (arith, i.symbols_left, next_total);
+          names_length = ap length a ∙ length-set names n _ ∙ i.names_length;
+          heads_length = ap length b ∙ length-set heads n _ ∙ i.heads_length;
+          names_left = sets_on names names' n _ _ _ a (ap (λ (ps : List Field). map name_number (map as_line ps)) e) ∙ i.names_left;
+          heads_left = sets_on heads heads' n _ _ _ b (ap (λ (ps : List Field). map line_signature (map as_line ps)) e) ∙ i.heads_left;
+        }

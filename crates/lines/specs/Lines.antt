@@ -1,43 +1,27 @@
 -- Lines by place, what a look at them answers, their signatures and packed names. Assumes nothing.
-use Rattle.std.specs.Prelude.{◌≡◌, Bool, false, ◌||◌, List, [], ◌∷◌, ◌++◌, map, ℕ, zero, suc, ◌+◌, ◌-◌, ◌<◌, ◌≤◌, eqb, length, get_or, take, drop, if◌then◌else◌}
-use Rattle.meaning.specs.Basics.{byte}
-use Rattle.meaning.specs.Numbers.{no, LINE, NAME}
-use Rattle.meaning.specs.Text.{Field, fine, refused, Passed, Line, pieces, all_but_last, tab, line_end, lines, is_count, value, are_sorts, is_result, is_visible, forms, wrong_field, judge_shape}
-use Rattle.table.specs.Table.{signature}
+use Rattle.std.specs.Prelude.{◌≡◌, Bool, false, ◌||◌, List, [], ◌∷◌, ◌++◌, map, ℕ, zero, suc, ◌+◌, ◌-◌, ◌<◌, ◌≤◌, eqb, length, take, drop, if◌then◌else◌, Result, Ok, Err}
+use Rattle.meaning.specs.Numbers.{LINE, NAME}
+use Rattle.meaning.specs.Text.{Field, fine, refused, Passed, Line, pieces, all_but_last, tab, line_end, lines, wrong_field, judge_shape}
+use Rattle.meaning.specs.Said.{found, refusal}
+use Rattle.meaning.specs.declared.Refusal.{Refusal}
+use Rattle.table.specs.Symbols.{signature}
+use Rattle.table.specs.declared.Signature.{Signature}
 use Rattle.fields.specs.Fields.{rest, packed}
-use Rattle.lines.specs.declared.Judgement.{Judgement}
-use Rattle.lines.specs.declared.Judgement.TheVariants.{Passes, Refused}
-use Rattle.lines.specs.declared.Scanned.{Scanned}
+use Rattle.lines.specs.declared.Counted.{Counted}
 use Rattle.lines.specs.Splice.{splice}
 
--- The case that a verdict of the definition is: document 01's number, line and field.
-unfoldable pub shown : Passed → Judgement
-shown (fine t) = Passes
-shown (refused n l k) = Refused (no n) l k
+-- What a test of a text comes to, in the words of src/.
+abbrev pub shown : Passed → Result (Unit {0}) Refusal
+shown = found (λ _. tt)
 
--- The same from a number that is 0 where nothing is refused.
-unfoldable pub judgement : ℕ → ℕ → ℕ → Judgement
-judgement zero l k = Passes
-judgement (suc n) l k = Refused (suc n) l k
+-- A test of a line or of a part of it: how many symbols its body has or, where its first wrong field is not 0, that field.
+unfoldable pub outcome : ℕ → ℕ → Result ℕ ℕ
+outcome zero symbols = Ok symbols
+outcome (suc k) symbols = Err (suc k)
 
--- Above the number of every field of a text.
-abbrev pub sound : ℕ
-sound = 65536
-
--- A line judged from field k on, in one number: the first field that is wrong or, where none is, `sound` and the field that would come next.
-unfoldable pub judged_from : ℕ → List (Field → Bool) → List Field → ℕ
-judged_from k [] [] = sound + k
-judged_from k [] (f ∷ fs) = if is_visible f then judged_from (k + 1) [] fs else k
-judged_from k (form ∷ more) [] = k
-judged_from k (form ∷ more) (f ∷ fs) = if form f then judged_from (k + 1) more fs else k
-
--- From field 2 on, whose value field 3 is judged by; and the whole line.
-unfoldable pub judged_2 : List Field → ℕ
-judged_2 [] = 2
-judged_2 (f ∷ fs) = if is_count f then judged_from 3 (are_sorts (value f) ∷ is_result ∷ is_visible ∷ []) fs else 2
-
-unfoldable pub judged_line : List Field → ℕ
-judged_line fs = judged_from 1 (forms (value (get_or fs 1 []))) fs
+-- The same of a whole line, whose body stands after four fields.
+unfoldable pub judged_line : List Field → Result ℕ ℕ
+judged_line fs = outcome (wrong_field fs) (length (drop 4 fs))
 
 unfoldable pub body_fields : List ℕ → ℕ
 body_fields line = length (drop 4 (pieces tab line))
@@ -68,27 +52,25 @@ total [] = 0
 total (h ∷ hs) = length h.body + total hs
 
 -- A function's signature and its packed name.
-unfoldable pub line_signature : Line → ℕ
+unfoldable pub line_signature : Line → Signature
 line_signature h = signature h.sorts h.strict h.result
 
 unfoldable pub name_number : Line → ℕ
 name_number h = packed h.name
 
--- The bit of a sort's letter.
-abbrev pub bit : ℕ → ℕ
-bit x = if eqb x (byte "b") then 1 else 0
+-- Why a text is refused where field k of line l is wrong.
+abbrev pub misfit : ℕ → ℕ → Refusal
+misfit = refusal LINE
 
--- What the scan answers where field k of line l is wrong.
-unfoldable pub misfit : ℕ → ℕ → Scanned
-misfit l k = record { number = no LINE; line = l; field = k; functions = 0; symbols = 0 }
+-- What the scan of a text counts.
+abbrev pub counts_of : List ℕ → Counted
+counts_of text = record { functions = length (lines text); symbols = total (lines text) }
 
 -- What the scan of a text answers and leaves in the arrays: the verdict on its shape and, where that passes, the counts, names and signatures of its lines.
-pub record Scan (text names names' heads heads' : List ℕ) (r : Scanned) : Type 0 where
-  pub shape_judged : judgement r.number r.line r.field ≡ shown (judge_shape text)
-  pub lines_counted : r.number ≡ 0 → r.functions ≡ length (lines text)
-  pub symbols_counted : r.number ≡ 0 → r.symbols ≡ total (lines text)
-  pub names_filled : r.number ≡ 0 → length (lines text) ≤ length names → names' ≡ splice names 0 (map name_number (lines text))
-  pub heads_filled : r.number ≡ 0 → length (lines text) ≤ length heads → heads' ≡ splice heads 0 (map line_signature (lines text))
+pub record Scan (text names names' : List ℕ) (heads heads' : List Signature) (r : Result Counted Refusal) : Type 0 where
+  pub shape_judged : r ≡ found (λ _. counts_of text) (judge_shape text)
+  pub names_filled : judge_shape text ≡ fine tt → length (lines text) ≤ length names → names' ≡ splice names 0 (map name_number (lines text))
+  pub heads_filled : judge_shape text ≡ fine tt → length (lines text) ≤ length heads → heads' ≡ splice heads 0 (map line_signature (lines text))
 
 -- NAME by packed names.
 unfoldable pub is_held : ℕ → List ℕ → Bool

@@ -2,5 +2,5 @@
 use Rattle.std.specs.Prelude.{List, ◌++◌, ℕ, length, take, drop}
 
 -- xs with ys in the place of what stands from k on.
-abbrev pub splice : List ℕ → ℕ → List ℕ → List ℕ
+abbrev pub splice : {A : Type 0} → List A → ℕ → List A → List A
 splice xs k ys = take k xs ++ (ys ++ drop (length ys) (drop k xs))

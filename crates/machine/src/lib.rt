@@ -2,115 +2,95 @@
 // defined run does, at every step limit. Assumes nothing.
 #![tactic(auto)]
 
-ghost use Rattle.std.specs.Prelude.{◌≡◌, ◌≤◌, ◌<◌, ◌^◌, length, drop};
+ghost use Rattle.std.specs.Prelude.{◌≡◌, ◌≤◌, length, drop};
 ghost use Rattle.meaning.specs.Basics.{written_over};
 ghost use Rattle.meaning.specs.Numbers.{most_arguments, work_words};
 ghost use Rattle.meaning.specs.Machine.{start, run};
 ghost use Rattle.meaning.specs.Answers.{zero_words, ran};
 ghost use Rattle.layout.specs.Decoding.{decode, first_entrance};
 ghost use Rattle.layout.specs.Layout.{Good, holds};
-ghost use Rattle.machine.specs.Ends.{answered, Given, Begun};
+ghost use Rattle.kinds.specs.Met.{Few};
+ghost use Rattle.machine.specs.Ends.{answered, Begun};
 
-use kinds::Registers;
-use meaning::Answer;
-
-// The arguments, to the slots of the first frame.
-fn copy_arguments(args: &[u32], work: &mut [u32])
-    requires { (work_words ≤ length work.old) × (length args.now ≤ most_arguments) }
-    ensures { Given work.old work.new args.now (length args.now) }
-{
-    let mut i: usize = 0;
-    while i < args.len() {
-        work[layout::LEVEL_WORDS + layout::SLOTS + i] = args[i];
-        i += 1;
-    }
-}
+use kinds::{Registers, Tally};
+use meaning::{Answer, Number};
 
 // One level, with the frame of the arguments.
 fn begin(args: &[u32], work: &mut [u32])
     requires { (work_words ≤ length work.old) × (length args.now ≤ most_arguments) }
     ensures { Begun work.old work.new args.now }
 {
-    copy_arguments(args, work);
-    let n = args.len() as u32;
+    let slots = layout::LEVEL_WORDS + layout::SLOTS;
+    work[slots..slots + args.len()].copy_from_slice(args);
     work[layout::LEVEL_WORDS + layout::LINK] = 0;
-    work[layout::LEVEL_WORDS + layout::STRICT] = n;
-    work[layout::LEVEL_WORDS + layout::SIZE] = n;
+    work[layout::LEVEL_WORDS + layout::STRICT] = args.len() as u32;
+    work[layout::LEVEL_WORDS + layout::SIZE] = args.len() as u32;
 }
 
 // The entrance of the initial term.
+#[tactic(auto, unfolding(layout::specs::Decoding::first_entrance))]
 fn first(code: &[u32]) -> u32
     ensures { result ≡ first_entrance code.now }
 {
-    if code.len() <= layout::COUNT {
-        return 0;
-    }
-    if code[layout::COUNT] == 0 {
-        return 0;
-    }
-    1
+    let strict = code.get(layout::COUNT).copied().unwrap_or(0);
+    u32::from(strict != 0)
 }
 
-// From address `begin` with one level, step by step, until the machine stops, meets the limit or cannot go on.
-fn drive(code: &[u32], work: &mut [u32], begin: u32, limit: u32) -> Registers
-    requires { Good work.old 1 1 0 }
-    ensures { (answered result ≡ ran (run (decode code.now) limit (holds work.old begin 1 1 0 0) 0 0)) × (result.tally.steps < 2 ^ 32) × (result.tally.rewrites ≤ result.tally.steps) × (drop work_words work.new ≡ drop work_words work.old) }
+// What a run answers that ends here with this number: "value is 0 unless HALT".
+#[tactic(auto, unfolding(meaning::specs::Numbers::no))]
+fn answer(s: Registers, number: Number) -> Answer
+    requires { Few s.tally }
+    ensures { result ≡ answered number s }
 {
-    let tally = kinds::Tally::new();
-    let mut s = Registers {
-        number: meaning::FUEL,
-        held: 0,
-        at: begin,
-        env: 1,
-        high: 1,
-        deep: 0,
-        tally,
+    let value = match number {
+        Number::Halt if s.deep != 0 => s.held,
+        _ => 0,
     };
-    let most = limit as u64;
-    loop {
-        if s.number != meaning::FUEL {
-            return s;
-        }
-        if most <= s.tally.steps {
-            return s;
-        }
-        s = kinds::step(s, code, work);
-    }
-}
-
-fn clear(work: &mut [u32])
-    requires { work_words ≤ length work.old }
-    ensures { work.new ≡ written_over zero_words work.old }
-{
-    let mut i: usize = 0;
-    while i < meaning::WORK_WORDS {
-        work[i] = 0;
-        i += 1;
-    }
-}
-
-// "value is 0 unless HALT"
-fn value(s: Registers) -> u32
-    ensures { result ≡ (answered s).value }
-{
-    if s.number != meaning::HALT {
-        return 0;
-    }
-    if s.deep == 0 { 0 } else { s.held }
-}
-
-fn answer(s: Registers) -> Answer
-    requires { (s.tally.steps < 2 ^ 32) × (s.tally.rewrites ≤ s.tally.steps) }
-    ensures { result ≡ answered s }
-{
     Answer {
-        number: s.number,
-        value: value(s),
+        number: u32::from(number),
+        value,
         line: 0,
         field: 0,
         steps: s.tally.steps as u32,
         rewrites: s.tally.rewrites as u32,
     }
+}
+
+// From address `begin` with one level, step by step, until the machine stops, meets the limit or cannot go on.
+fn drive(code: &[u32], work: &mut [u32], begin: u32, limit: u32) -> Answer
+    requires { Good work.old 1 1 0 }
+    ensures { (result ≡ ran (run (decode code.now) limit (holds work.old begin 1 1 0 0) 0 0)) × (drop work_words work.new ≡ drop work_words work.old) }
+{
+    let mut s = Registers {
+        held: 0,
+        at: begin,
+        env: 1,
+        high: 1,
+        deep: 0,
+        tally: Tally::new(),
+    };
+    // No `for`: the tally counts the steps, and the loop ends by what the machine comes to.
+    loop {
+        if s.high == 0 {
+            return answer(s, Number::Halt);
+        }
+        if u64::from(limit) <= s.tally.steps {
+            return answer(s, Number::Fuel);
+        }
+        s = match s.step(code, work) {
+            Ok(next) => next,
+            Err(number) => return answer(s, number),
+        };
+    }
+}
+
+#[tactic(auto, using(crate::proofs::Clearing::cleared))]
+fn clear(work: &mut [u32])
+    requires { work_words ≤ length work.old }
+    ensures { work.new ≡ written_over zero_words work.old }
+{
+    let (used, _) = work.split_at_mut(meaning::WORK_WORDS);
+    used.fill(0);
 }
 
 // The run of these code words: its answer, and the first 8,192 work words cleared.
@@ -119,7 +99,7 @@ pub fn execute(code: &[u32], args: &[u32], limit: u32, work: &mut [u32]) -> Answ
     ensures { (result ≡ ran (run (decode code.now) limit (start (first_entrance code.now) args.now) 0 0)) × (work.new ≡ written_over zero_words work.old) }
 {
     begin(args, work);
-    let s = drive(code, work, first(code), limit);
+    let answer = drive(code, work, first(code), limit);
     clear(work);
-    answer(s)
+    answer
 }

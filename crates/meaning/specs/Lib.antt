@@ -9,3 +9,4 @@ pub mod Machine
 pub mod Rewriting
 pub mod Answers
 pub mod Program
+pub mod Said

@@ -2,6 +2,10 @@
 // What they mean stands in specs/, page by page in document 01's order. Assumes nothing.
 #![tactic(auto)]
 
+ghost use Rattle.std.specs.Prelude.{◌≡◌, ◌<◌, ◌^◌, IfOk};
+ghost use Rattle.meaning.specs.Terms.{wrong_number};
+ghost use Rattle.meaning.specs.Said.{said, number_word, checked_refusal, answered_refusal, checked_result};
+
 // One function of an accepted text: how many arguments it takes, how many of them are strict, its result's sort (n 0, b 1), and the address of its body's first symbol.
 #[repr(C)]
 #[derive(Clone, Copy)]
@@ -47,38 +51,114 @@ pub enum Wrong {
     TooDeep,
 }
 
-// The numbers, as specs/Numbers.antt has them.
-pub const HALT: u32 = 0;
+// The number that the engine answers for it.
+impl From<Wrong> for Number {
+    ghost from_gives = { λ wrong n. n ≡ said (wrong_number wrong) };
 
-pub const LONG: u32 = 1;
+    #[tactic(auto, unfolding(crate::specs::Terms::wrong_number))]
+    fn from(wrong: Wrong) -> Number {
+        match wrong {
+            Wrong::UnknownSymbol => Number::Unknown,
+            Wrong::LackingArgument => Number::Unknown,
+            Wrong::OtherSort => Number::Sort,
+            Wrong::EarlyEnd => Number::Short,
+            Wrong::LeftOver => Number::Term,
+            Wrong::TooDeep => Number::Nest,
+        }
+    }
+}
 
-pub const LINE: u32 = 2;
+// What the engine answers with, numbered from 0 in this order; specs/Numbers.antt says when each is given.
+#[derive(Clone, Copy, PartialEq, Eq)]
+pub enum Number {
+    Halt,
+    Long,
+    Line,
+    Count,
+    Name,
+    Term,
+    Nest,
+    Args,
+    Room,
+    Fuel,
+    Deep,
+    Stuck,
+    Zero,
+    Unknown,
+    Sort,
+    Short,
+}
 
-pub const COUNT: u32 = 3;
+impl From<Number> for u32 {
+    ghost from_gives = { λ n w. w ≡ number_word n };
 
-pub const NAME: u32 = 4;
+    fn from(n: Number) -> u32 {
+        n as u32
+    }
+}
 
-pub const TERM: u32 = 5;
+// Why a text is refused, and where: line and field count from 1, and are 0 where none is named.
+#[derive(Clone, Copy)]
+pub struct Refusal {
+    pub number: Number,
+    pub line: u32,
+    pub field: u32,
+}
 
-pub const NEST: u32 = 6;
+impl From<Refusal> for Checked {
+    ghost from_gives = { λ r c. c ≡ checked_refusal r };
 
-pub const ARGS: u32 = 7;
+    fn from(r: Refusal) -> Checked {
+        Checked {
+            number: u32::from(r.number),
+            line: r.line,
+            field: r.field,
+            functions: 0,
+            instructions: 0,
+        }
+    }
+}
 
-pub const ROOM: u32 = 8;
+impl From<Refusal> for Answer {
+    ghost from_gives = { λ r a. a ≡ answered_refusal r };
 
-pub const FUEL: u32 = 9;
+    fn from(r: Refusal) -> Answer {
+        Answer {
+            number: u32::from(r.number),
+            value: 0,
+            line: r.line,
+            field: r.field,
+            steps: 0,
+            rewrites: 0,
+        }
+    }
+}
 
-pub const DEEP: u32 = 10;
+// What an accepted text has: functions, and instructions once it is translated.
+#[derive(Clone, Copy)]
+pub struct Accepted {
+    pub functions: usize,
+    pub instructions: usize,
+}
 
-pub const STUCK: u32 = 11;
-
-pub const ZERO: u32 = 12;
-
-pub const UNKNOWN: u32 = 13;
-
-pub const SORT: u32 = 14;
-
-pub const SHORT: u32 = 15;
+impl Checked {
+    // What Check and Translate answer for what a text comes to. What an accepted text has are words.
+    pub fn of(found: Result<Accepted, Refusal>) -> Checked
+        requires { IfOk found (λ a. (a.functions < 2 ^ 32) × (a.instructions < 2 ^ 32)) }
+        ensures { result ≡ checked_result found }
+    {
+        match found {
+            Ok(accepted) => Checked {
+                number: u32::from(Number::Halt),
+                line: 0,
+                field: 0,
+                functions: accepted.functions as u32,
+                instructions: accepted.instructions as u32,
+            },
+            Err(refusal) => Checked::from(refusal),
+        }
+    }
+}
 
 // The limits.
 pub const MOST_BYTES: usize = 16384;

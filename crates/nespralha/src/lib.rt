@@ -4,12 +4,12 @@
 
 ghost use Rattle.std.specs.Prelude.{◌≡◌, ◌≤◌, length};
 ghost use Rattle.meaning.specs.Answers.{check_answer, check_heads, translate_answer, translate_code, run_answer, run_code, run_work};
-ghost use Rattle.nespralha.specs.Short.{short_text};
-ghost use Rattle.answers.specs.Outcomes.{CheckFound, TranslateOutcome, RunOutcome};
+ghost use Rattle.answers.specs.Outcomes.{CheckOutcome, TranslateOutcome, RunOutcome};
+ghost use Rattle.reading.specs.Reading.{Fit};
 
-use answers::Found;
-use meaning::{Answer, Checked, Head, MOST_FUNCTIONS};
+use meaning::{Accepted, Answer, Checked, Head, MOST_FUNCTIONS, Refusal};
 use reading::TABLE_SYMBOLS;
+use table::Table;
 
 // A text that is short is read into a short table, which takes less time to make: a line takes eight bytes beside its symbols, a symbol two.
 const SHORT_TEXT: usize = 128;
@@ -18,110 +18,46 @@ const SHORT_FUNCTIONS: usize = SHORT_TEXT / 8;
 
 const SHORT_TABLE: usize = SHORT_TEXT / 2 + reading::INITIAL_ROOM;
 
-// What the check of any text finds, where so many heads are lent; of a short one.
-fn check_long(text: &[u8], lent: usize) -> Found
-    ensures { CheckFound text.now lent result }
-{
-    let mut names = [0u64; MOST_FUNCTIONS];
-    let mut heads = [0u32; MOST_FUNCTIONS];
-    let mut bodies = [0u32; MOST_FUNCTIONS];
-    let mut words = [0u32; TABLE_SYMBOLS];
-    let mut values = [0u32; TABLE_SYMBOLS];
-    let mut ends = [0u32; TABLE_SYMBOLS];
-    let c = reading::read(
-        text,
-        &mut names,
-        &mut heads,
-        &mut bodies,
-        &mut words,
-        &mut values,
-        &mut ends,
-    );
-    answers::check_table(c, &heads, &bodies, lent)
-}
+type ShortTable = Table<SHORT_FUNCTIONS, SHORT_TABLE>;
 
-fn check_short(text: &[u8], lent: usize) -> Found
-    requires { length text.now ≤ short_text }
-    ensures { CheckFound text.now lent result }
-{
-    let mut names = [0u64; SHORT_FUNCTIONS];
-    let mut heads = [0u32; SHORT_FUNCTIONS];
-    let mut bodies = [0u32; SHORT_FUNCTIONS];
-    let mut words = [0u32; SHORT_TABLE];
-    let mut values = [0u32; SHORT_TABLE];
-    let mut ends = [0u32; SHORT_TABLE];
-    let c = reading::read(
-        text,
-        &mut names,
-        &mut heads,
-        &mut bodies,
-        &mut words,
-        &mut values,
-        &mut ends,
-    );
-    answers::check_table(c, &heads, &bodies, lent)
-}
+type LongTable = Table<MOST_FUNCTIONS, TABLE_SYMBOLS>;
 
-fn check_text(text: &[u8], lent: usize) -> Found
-    ensures { CheckFound text.now lent result }
+// What Check comes to, by a table that has room for the text. (`Fit` joins two values, the text and the table, so it is no invariant of one of them.)
+fn check_in<const F: usize, const S: usize>(
+    text: &[u8],
+    table: &mut Table<F, S>,
+    heads: &mut [Head],
+) -> Result<Accepted, Refusal>
+    requires { let t = table.old in Fit text.now t.names t.heads t.bodies t.symbols t.ends }
+    ensures { CheckOutcome text.now heads.old result heads.new }
 {
-    if text.len() <= SHORT_TEXT {
-        return check_short(text, lent);
-    }
-    check_long(text, lent)
+    let read = reading::read(text, table);
+    answers::check_table(read, table.view(), &table.bodies, heads)
 }
 
 // The check of a text, with the heads of its functions.
 pub fn check(text: &[u8], heads: &mut [Head]) -> Checked
     ensures { (result ≡ check_answer text.now (length heads.old)) × (heads.new ≡ check_heads text.now heads.old) }
 {
-    let f = check_text(text, heads.len());
-    heads::put_heads(heads, f.heads, f.n);
-    f.answer
+    let found = if text.len() <= SHORT_TEXT {
+        check_in(text, &mut ShortTable::new(), heads)
+    } else {
+        check_in(text, &mut LongTable::new(), heads)
+    };
+    Checked::of(found)
 }
 
-// The code words of any text; of a short one.
-fn translate_long(text: &[u8], code: &mut [u32]) -> Checked
+// What Translate comes to, by a table that has room for the text.
+fn translate_in<const F: usize, const S: usize>(
+    text: &[u8],
+    table: &mut Table<F, S>,
+    code: &mut [u32],
+) -> Result<Accepted, Refusal>
+    requires { let t = table.old in Fit text.now t.names t.heads t.bodies t.symbols t.ends }
     ensures { TranslateOutcome text.now code.old result code.new }
 {
-    let mut names = [0u64; MOST_FUNCTIONS];
-    let mut heads = [0u32; MOST_FUNCTIONS];
-    let mut bodies = [0u32; MOST_FUNCTIONS];
-    let mut words = [0u32; TABLE_SYMBOLS];
-    let mut values = [0u32; TABLE_SYMBOLS];
-    let mut ends = [0u32; TABLE_SYMBOLS];
-    let c = reading::read(
-        text,
-        &mut names,
-        &mut heads,
-        &mut bodies,
-        &mut words,
-        &mut values,
-        &mut ends,
-    );
-    answers::translate_table(c, &heads, &words, &values, &ends, code)
-}
-
-fn translate_short(text: &[u8], code: &mut [u32]) -> Checked
-    requires { length text.now ≤ short_text }
-    ensures { TranslateOutcome text.now code.old result code.new }
-{
-    let mut names = [0u64; SHORT_FUNCTIONS];
-    let mut heads = [0u32; SHORT_FUNCTIONS];
-    let mut bodies = [0u32; SHORT_FUNCTIONS];
-    let mut words = [0u32; SHORT_TABLE];
-    let mut values = [0u32; SHORT_TABLE];
-    let mut ends = [0u32; SHORT_TABLE];
-    let c = reading::read(
-        text,
-        &mut names,
-        &mut heads,
-        &mut bodies,
-        &mut words,
-        &mut values,
-        &mut ends,
-    );
-    answers::translate_table(c, &heads, &words, &values, &ends, code)
+    let read = reading::read(text, table);
+    answers::translate_table(read, table.view(), code)
 }
 
 // The code words of a text.
@@ -129,54 +65,28 @@ pub fn translate(text: &[u8], code: &mut [u32]) -> Checked
     ensures answer { result ≡ translate_answer text.now (length code.old) }
     ensures code { code.new ≡ translate_code text.now code.old }
 {
-    if text.len() <= SHORT_TEXT {
-        return translate_short(text, code);
-    }
-    translate_long(text, code)
+    let found = if text.len() <= SHORT_TEXT {
+        translate_in(text, &mut ShortTable::new(), code)
+    } else {
+        translate_in(text, &mut LongTable::new(), code)
+    };
+    Checked::of(found)
 }
 
-// The run of any text's entry at these arguments; of a short one's.
-fn run_long(text: &[u8], args: &[u32], limit: u32, code: &mut [u32], work: &mut [u32]) -> Answer
+// What Run comes to, by a table that has room for the text, with all that C's function is lent.
+fn run_in<const F: usize, const S: usize>(
+    text: &[u8],
+    table: &mut Table<F, S>,
+    args: &[u32],
+    limit: u32,
+    code: &mut [u32],
+    work: &mut [u32],
+) -> Result<Answer, Refusal>
+    requires { let t = table.old in Fit text.now t.names t.heads t.bodies t.symbols t.ends }
     ensures { RunOutcome text.now args.now limit code.old work.old result code.new work.new }
 {
-    let mut names = [0u64; MOST_FUNCTIONS];
-    let mut heads = [0u32; MOST_FUNCTIONS];
-    let mut bodies = [0u32; MOST_FUNCTIONS];
-    let mut words = [0u32; TABLE_SYMBOLS];
-    let mut values = [0u32; TABLE_SYMBOLS];
-    let mut ends = [0u32; TABLE_SYMBOLS];
-    let c = reading::read(
-        text,
-        &mut names,
-        &mut heads,
-        &mut bodies,
-        &mut words,
-        &mut values,
-        &mut ends,
-    );
-    answers::run_table(c, &heads, &words, &values, &ends, args, limit, code, work)
-}
-
-fn run_short(text: &[u8], args: &[u32], limit: u32, code: &mut [u32], work: &mut [u32]) -> Answer
-    requires { length text.now ≤ short_text }
-    ensures { RunOutcome text.now args.now limit code.old work.old result code.new work.new }
-{
-    let mut names = [0u64; SHORT_FUNCTIONS];
-    let mut heads = [0u32; SHORT_FUNCTIONS];
-    let mut bodies = [0u32; SHORT_FUNCTIONS];
-    let mut words = [0u32; SHORT_TABLE];
-    let mut values = [0u32; SHORT_TABLE];
-    let mut ends = [0u32; SHORT_TABLE];
-    let c = reading::read(
-        text,
-        &mut names,
-        &mut heads,
-        &mut bodies,
-        &mut words,
-        &mut values,
-        &mut ends,
-    );
-    answers::run_table(c, &heads, &words, &values, &ends, args, limit, code, work)
+    let read = reading::read(text, table);
+    answers::run_table(read, table.view(), args, limit, code, work)
 }
 
 // The run of a text's entry at these arguments.
@@ -185,8 +95,10 @@ pub fn run(text: &[u8], args: &[u32], limit: u32, code: &mut [u32], work: &mut [
     ensures code { code.new ≡ run_code text.now args.now code.old (length work.old) }
     ensures work { work.new ≡ run_work text.now args.now (length code.old) work.old }
 {
-    if text.len() <= SHORT_TEXT {
-        return run_short(text, args, limit, code, work);
-    }
-    run_long(text, args, limit, code, work)
+    let found = if text.len() <= SHORT_TEXT {
+        run_in(text, &mut ShortTable::new(), args, limit, code, work)
+    } else {
+        run_in(text, &mut LongTable::new(), args, limit, code, work)
+    };
+    found.unwrap_or_else(Answer::from)
 }

@@ -1,32 +1,29 @@
 -- What a first line asks for, argument by argument. Assumes nothing.
-use Rattle.std.specs.Prelude.{◌≡◌, true, false, List, [], ◌∷◌, ◌++◌, ℕ, ◌≤◌, leb, length, take, drop, if◌then◌else◌}
-use Rattle.std.proofs.Math.Option.{Option, none, some}
+use Rattle.std.specs.Prelude.{◌≡◌, List, [], ◌∷◌, ◌++◌, ℕ, ◌≤◌, leb, length, drop, if◌then◌else◌, Option, Some, None, IsSomeAnd}
+use Rattle.std.specs.Option.{option_map}
+use Rattle.arrayvec.specs.ArrayVec.{ArrayVec}
 use Rattle.meaning.specs.Numbers.{most_arguments}
 use Rattle.meaning.specs.Text.{Field, value}
 use Rattle.meaning.specs.Terms.{is_decimal}
 use Rattle.meaning.specs.Program.{Order, malformed, order}
-use Rattle.order.specs.declared.Asked.{Asked}
-
-abbrev pub nothing_asked : Asked
-nothing_asked = record { formed = false; limit = 0; args = 0 ∷ 0 ∷ 0 ∷ 0 ∷ 0 ∷ 0 ∷ 0 ∷ 0 ∷ []; count = 0; text = 0 }
+use Rattle.order.specs.declared.Order.{Order as Read}
 
 -- The arguments vs and those of the fields after them; none where one is no decimal or they are too many.
 unfoldable pub arguments_from : List ℕ → List Field → Option (List ℕ)
-arguments_from vs [] = some vs
-arguments_from vs (f ∷ fs) = if leb most_arguments (length vs) then none else if is_decimal f then arguments_from (vs ++ (value f ∷ [])) fs else none
+arguments_from vs [] = Some vs
+arguments_from vs (f ∷ fs) = if leb most_arguments (length vs) then None else if is_decimal f then arguments_from (vs ++ (value f ∷ [])) fs else None
 
--- The struct says what a line with the limit and the arguments asks for.
-unfoldable pub Told : Option (List ℕ) → ℕ → ℕ → Asked → Type 0
-Told none limit text r = r.formed ≡ false
-Told (some vs) limit text r = (r.formed ≡ true) × (r.limit ≡ limit) × (r.text ≡ text) × (take r.count r.args ≡ vs) × (r.count ≤ most_arguments) × (length r.args ≡ most_arguments)
+-- Arguments as src/ has them.
+abbrev pub arguments_read : Option (List ℕ) → Option (ArrayVec ℕ)
+arguments_read vs = option_map (λ a. record { items = a }) vs
 
--- The struct says what a line of these fields asks for, the text after it beginning at `text`.
-unfoldable pub Line : List Field → ℕ → Asked → Type 0
-Line [] text r = r.formed ≡ false
-Line (f ∷ fs) text r = Told (if is_decimal f then arguments_from [] fs else none) (value f) text r
+-- What a line of these fields asks for, the text after it beginning at `text`.
+unfoldable pub line_read : ℕ → List Field → Option Read
+line_read text [] = None
+line_read text (f ∷ fs) = if is_decimal f then option_map (λ a. record { limit = value f; args = record { items = a }; text = text }) (arguments_from [] fs) else None
 
--- The struct says what standard input asks for.
-unfoldable pub Asks : List ℕ → Order → Asked → Type 0
-Asks input malformed r = r.formed ≡ false
+-- The struct says what standard input asks for; there is none where the first line is malformed.
+unfoldable pub Asks : List ℕ → Order → Option Read → Type 0
+Asks input malformed r = r ≡ None
 Asks input (order limit args text) r =
-    (r.formed ≡ true) × (r.limit ≡ limit) × (take r.count r.args ≡ args) × (r.count ≤ most_arguments) × (length r.args ≡ most_arguments) × (drop r.text input ≡ text) × (r.text ≤ length input)
+    IsSomeAnd r (λ o. (o.limit ≡ limit) × (o.args.items ≡ args) × (length o.args.items ≤ most_arguments) × (drop o.text input ≡ text) × (o.text ≤ length input))

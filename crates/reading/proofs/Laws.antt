@@ -1,146 +1,93 @@
--- Laws of Check's core: the initial term, the order of refusals, arrays that fit, and the table of an accepted text. Assumes nothing.
-use Rattle.std.specs.Prelude.{if◌then◌else◌}
-use mathlib.Core.Path.{◌≡◌, refl, ap, sym, ◌∙◌, subst}
-use mathlib.Core.Bool.{Bool, true, false}
-use mathlib.Core.List.{List, [], ◌∷◌, ◌++◌, map, map-append, append_assoc, append-nil}
-use Prim.Native.Nat.{ℕ, zero, suc, ◌+◌, ◌-◌, ◌*◌, ◌%◌, ◌<◌, ◌≤◌}
-use native.Mathlib.Omega.{arith}
-use native.Mathlib.Numerals.{add-one}
-use lib.Dec.{leb}
-use lib.ListN.{length, get_or, take, drop, set, length-map, take-append-drop}
-use borrow.Author.Tests.{leb-true, leb-false, lt-leb, le-leb}
-use Rattle.meaning.specs.Numbers.{Number, no, LONG, COUNT}
-use Rattle.meaning.specs.Text.{Field, Line, Verdict, fine, refused, Passed, ◌>>◌, pieces, judge_length, judge_shape, judge_lines, judge_symbols, judge_counts, judge_names, is_among, lines}
+-- Laws of Check's core: the order of refusals, arrays that fit, and the table of an accepted text. Assumes nothing.
+use Rattle.std.specs.Prelude.{Ok, Err}
+use Rattle.std.proofs.Common.{◌≡◌, ℕ, ◌+◌, ◌*◌, ◌<◌, ◌≤◌, List, [], ◌∷◌, ◌++◌, map, length, get_or, take, drop, refl, ap, sym, ◌∙◌, subst, arith}
+use Rattle.std.specs.List.{range_with_len}
+use Rattle.std.proofs.lemmas.List.{map-append, length-map}
+use Rattle.std.proofs.lemmas.List.FromFn.{length-range_with_len}
+use Rattle.std.proofs.lemmas.Bool.{lt-leb, le-leb}
+use Rattle.meaning.specs.Numbers.{LONG, most_bytes, most_functions}
+use Rattle.meaning.specs.Text.{Field, Line, Verdict, is_among, fine, refused, Passed, ◌>>◌, judge_length, judge_shape, judge_counts, judge_names, lines}
 use Rattle.meaning.specs.Terms.{Function, Program, read_bodies}
-use Rattle.meaning.specs.Code.{size, initial, translation}
+use Rattle.meaning.specs.Code.{size, initial, translation, bodies_size, ret_address}
 use Rattle.meaning.specs.Check.{check}
-use Rattle.meaning.specs.Answers.{checked}
-use Rattle.meaning.specs.declared.Checked.{Checked}
-use Rattle.table.specs.Table.{bodies_words, bodies_values, bodies_ends, table_words, table_values, table_ends, signatures, addresses, addresses_from, Begins, Holds}
-use Rattle.fields.specs.Fields.{span, packed}
+use Rattle.meaning.specs.Said.{refusal, found, accepted}
+use Rattle.meaning.specs.declared.Refusal.{Refusal}
+use Rattle.meaning.proofs.Said.{found_fine, found_refused}
+use Rattle.table.specs.Table.{bodies_symbols, bodies_ends, table_symbols, table_ends, signatures, addresses, addresses_from, Begins, Holds}
+use Rattle.table.specs.declared.Sort.TheVariants.{Number}
+use Rattle.table.specs.declared.Signature.{Signature}
+use Rattle.table.specs.declared.Symbol.{Symbol}
+use Rattle.table.specs.declared.Symbol.TheVariants.{Argument, Function as Call}
+use Rattle.accepted.specs.Accepted.{Accepted, Every}
+use Rattle.accepted.proofs.Accepted as theorem
+use Rattle.accepted.proofs.Initial.{initial_size}
+use Rattle.accepted.proofs.Length.{translation_length}
+use Rattle.accepted.proofs.Lines.{Lined, symbols, shape_lines, counts_few}
+use Rattle.lines.specs.Splice.{splice}
+use Rattle.lines.specs.Lines.{shown, is_held, judge_packed, Right, raw_lines, total, line_signature, name_number, counts_of, Scan}
+use Rattle.lines.proofs.Splice.{splice_more, take_splice}
+use Rattle.lines.proofs.Laws.{lines_raw, right_shape, shaped_within}
+use Rattle.fields.specs.Fields.{packed}
 use Rattle.fields.proofs.Laws.{packed_same}
 use Rattle.symbols.proofs.Names.{Names, Name}
-use Rattle.lines.specs.Splice.{splice}
-use Rattle.lines.specs.Lines.{shown, judgement, Right, raw_lines, total, name_number, line_signature, Scan, is_held, judge_packed}
-use Rattle.lines.specs.declared.Scanned.{Scanned}
-use Rattle.lines.specs.declared.Judgement.{Judgement}
-use Rattle.lines.specs.declared.Judgement.TheVariants.{Passes, Refused}
-use Rattle.lines.proofs.Splice.{splice_more, splice_set, take_splice}
-use Rattle.lines.proofs.Laws.{shape_some, shape_none, shape_open, more_lines, lines_raw, right_shape, shaped_within}
-use Rattle.table.proofs.Signatures.{signature_count}
-use Rattle.bodies.specs.Bodies.{Formed, Finishes}
-use Rattle.bodies.specs.declared.Finished.{Finished}
-use Rattle.bodies.specs.declared.Finished.TheVariants as finished
-use Rattle.bodies.proofs.Laws.{formed_lines, formed_names, names_packed}
-use Rattle.reading.specs.Reading.{refusal, acceptance, after_names, after_counts, after_shape, upto, zeros, Outcome, Counted, initial_room, Fit, Noted}
-use Rattle.reading.proofs.Programs.{Of, of_bodies, sizes_of, of_length, of_signatures, initial_words, initial_values, initial_size, initial_ends, translation_length}
+use Rattle.bodies.specs.Bodies.{Finishes}
+use Rattle.bodies.proofs.Laws.{names, named_lines, names_packed}
+use Rattle.lines.specs.declared.Counted.{Counted}
+use Rattle.reading.specs.Reading.{Counted as Sized, initial_room, Fit}
+use Rattle.reading.proofs.Programs.{Of, of_bodies, of_length, of_signatures, initial_symbols, initial_ends}
 
--- The initial term's arguments, one after the other.
+-- The order of refusals.
 
-pub upto_on : (n i a : ℕ) → i ≤ n → upto (n + 1 - i) a ≡ a ∷ upto (n + 1 - (i + 1)) (a + 1)
-unfolding upto
-upto_on n i a h = let e : n + 1 - i ≡ suc (n + 1 - (i + 1)) = omega arith in rw (e, add-one a)
+stopped : {B : Type 0} (g : Unit {0} → B) (p : Passed) (next : Verdict Program) (e : Refusal) → Err e ≡ found g p → Err e ≡ found accepted (p >> next)
+unfolding found ◌>>◌
+stopped g (fine t) next e x = absurd (cc x)
+stopped g (refused n l k) next e x = cc
 
-pub upto_end : (n i a : ℕ) → n < i → upto (n + 1 - i) a ≡ []
-unfolding upto
-upto_end n i a h = let e : n + 1 - i ≡ 0 = omega arith in rw e
+on : (p : Passed) (next : Verdict Program) → p ≡ fine tt → p >> next ≡ next
+unfolding ◌>>◌
+on p next e = rw e
 
-pub zeros_on : (n i : ℕ) → i ≤ n → zeros (n + 1 - i) ≡ 0 ∷ zeros (n + 1 - (i + 1))
-unfolding zeros
-zeros_on n i h = let e : n + 1 - i ≡ suc (n + 1 - (i + 1)) = omega arith in rw e
+module _ (t : List ℕ) where
+  pub too_long : most_bytes < length t → Err (refusal LONG 0 0) ≡ found accepted (check t)
+  unfolding check judge_length ◌>>◌ found
+  too_long h = rw (lt-leb (length t) 16384 h)
 
-pub zeros_end : (n i : ℕ) → n < i → zeros (n + 1 - i) ≡ []
-unfolding zeros
-zeros_end n i h = let e : n + 1 - i ≡ 0 = omega arith in rw e
+  not_long : length t ≤ most_bytes → check t ≡ (judge_shape t >> (judge_counts (lines t) >> (judge_names 1 [] (map (λ h. h.name) (lines t)) >> read_bodies (lines t) 1 (lines t))))
+  unfolding check judge_length ◌>>◌
+  not_long h = rw (le-leb (length t) 16384 h)
 
-pub all_of : (n : ℕ) → n + 1 - 1 ≡ n
-all_of n = omega arith
+  module _ (short : length t ≤ most_bytes) {B : Type 0} (g : Unit {0} → B) (e : Refusal) where
+    pub misshapen : Err e ≡ found g (judge_shape t) → Err e ≡ found accepted (check t)
+    misshapen x = rw (not_long short) (stopped g (judge_shape t) _ e x)
 
-pub started : (c c2 : List ℕ) (x y : ℕ) (xs : List ℕ) → 0 < length c → x ≡ y → c2 ≡ splice (set c 0 x) 1 xs → c2 ≡ splice c 0 (y ∷ xs)
-started c c2 x y xs h e q = q ∙ rw e (splice_set c 0 y xs h)
+    pub miscounted : judge_shape t ≡ fine tt → Err e ≡ found g (judge_counts (lines t)) → Err e ≡ found accepted (check t)
+    miscounted s x = rw (not_long short, on (judge_shape t) _ s) (stopped g (judge_counts (lines t)) _ e x)
 
--- Refusals.
+    pub misnamed : judge_shape t ≡ fine tt → judge_counts (lines t) ≡ fine tt → Err e ≡ found g (judge_names 1 [] (map (λ h. h.name) (lines t))) → Err e ≡ found accepted (check t)
+    misnamed s c x = rw (not_long short, on (judge_shape t) _ s, on (judge_counts (lines t)) _ c) (stopped g _ _ e x)
 
-clash : {A : Type 0} {j : Judgement} {n l k : ℕ} → j ≡ Passes → j ≡ Refused n l k → A
-clash p q = let z : ◌≡◌ {A = ℕ} 0 1 = cc in absurd (omega arith)
+  all_pass : length t ≤ most_bytes → judge_shape t ≡ fine tt → judge_counts (lines t) ≡ fine tt → judge_names 1 [] (map (λ h. h.name) (lines t)) ≡ fine tt → check t ≡ read_bodies (lines t) 1 (lines t)
+  all_pass h s c n = not_long h ∙ on (judge_shape t) _ s ∙ on (judge_counts (lines t)) _ c ∙ on _ _ n
 
-refusal_same : (n m l i k j : ℕ) (N : ℕ) → Refused n l k ≡ Refused m i j → refusal m i j ≡ refusal n l k
-refusal_same n m l i k j N e =
-    let a : m ≡ n = cc in
-    let b : i ≡ l = cc in
-    let c : j ≡ k = cc in
-    rw (a, b, c)
-
-refused_checked : (n : Number) (l k : ℕ) → refusal (no n) l k ≡ checked (refused n l k)
-unfolding refusal checked
-refused_checked n l k = refl
-
-no_program : {A : Type 0} {n : Number} {l k : ℕ} {P : Program} → refused n l k ≡ fine P → A
-no_program e = let z : ◌≡◌ {A = ℕ} 0 1 = cc in absurd (omega arith)
-
-module _ (w v e h b : List ℕ) (r : Checked) where
-  pub not_passed : (p : Passed) (next : Verdict Program) (j : Judgement) (n l k : ℕ) → j ≡ shown p → j ≡ Refused n l k → r ≡ refusal n l k → Outcome (p >> next) w v e h b r
-  unfolding shown ◌>>◌
-  not_passed (fine t) next j n l k x y z = clash x y
-  not_passed (refused m i q) next j n l k x y z =
-      record { answer = z ∙ refusal_same (no m) n i l q k 0 (sym x ∙ y) ∙ refused_checked m i q; table = λ P o. no_program o }
-
-  pub is_passed : (p : Passed) (next : Verdict Program) → p ≡ fine tt → Outcome next w v e h b r → Outcome (p >> next) w v e h b r
-  unfolding ◌>>◌
-  is_passed p next x o = rw x o
-
-  pub too_long : (text : List ℕ) → 16384 < length text → r ≡ refusal 1 0 0 → Outcome (check text) w v e h b r
-  unfolding check judge_length ◌>>◌ no
-  too_long text x z = rw (lt-leb (length text) 16384 x) (record { answer = z ∙ refused_checked LONG 0 0; table = λ P o. no_program o })
-
-  pub not_long : (text : List ℕ) → length text ≤ 16384 → Outcome (judge_shape text >> after_shape text) w v e h b r → Outcome (check text) w v e h b r
-  unfolding check judge_length ◌>>◌ after_shape after_counts after_names
-  not_long text x o = rw (le-leb (length text) 16384 x) o
-
-pub passes_fine : (p : Passed) (j : Judgement) → j ≡ shown p → j ≡ Passes → p ≡ fine tt
-unfolding shown
-passes_fine (fine t) j x y = refl
-passes_fine (refused n l k) j x y = clash y x
+-- A text that is refused has no program.
+pub no_program : {A : Type 0} (v : Verdict Program) (e : Refusal) (P : Program) → Err e ≡ found accepted v → v ≡ fine P → A
+no_program v e P x y = let z = found_refused accepted v e (sym x) in absurd (cc (z.1, y))
 
 -- What has passed.
 
-no_pass : {A : Type 0} (p : Passed) (n l k : ℕ) → p ≡ fine tt → Refused n l k ≡ shown p → A
-unfolding shown
-no_pass (fine t) n l k x y = clash {n = n} {l = l} {k = k} refl (sym y)
-no_pass (refused m i j) n l k x y = let z : ◌≡◌ {A = ℕ} 0 1 = cc in absurd (omega arith)
+symbols_total : (hs : List Line) → symbols hs ≡ total hs
+unfolding symbols total
+symbols_total [] = refl
+symbols_total (h ∷ hs) = ap (λ (n : ℕ). length h.body + n) (symbols_total hs)
 
-nothing_shaped : (t : List ℕ) → length t ≡ 0 → judge_shape t ≡ fine tt → ⊥
-nothing_shaped t h e = no_pass (judge_shape t) 2 1 1 e (shape_none t h)
+-- How many arguments the first of some functions has.
+abbrev pub first_count : List Signature → ℕ
+first_count H = (get_or H 0 (record { sorts = record { count = 0; mask = 0 }; strict = 0; result = Number })).sorts.count
 
-has_line : (t : List ℕ) (o : Bool) → leb (length t) (0 + span 10 (drop 0 t)) ≡ o → 0 < length t → judge_shape t ≡ fine tt → 0 < length (lines t)
-has_line t true p h e =
-    no_pass (judge_lines 1 (pieces 10 (drop 0 t))) 2 1 0 (shape_some t (λ z. nothing_shaped t z e) ∙ e) (shape_open t 0 (0 + span 10 (drop 0 t)) h refl 1 (leb-true (length t) (0 + span 10 (drop 0 t)) p))
-has_line t false p h e = omega (arith, ap length (more_lines t 0 (0 + span 10 (drop 0 t)) h refl (leb-false (length t) (0 + span 10 (drop 0 t)) p)))
-
-some_byte : (t : List ℕ) → judge_shape t ≡ fine tt → 0 < length t
-some_byte [] e = absurd (nothing_shaped [] refl e)
-some_byte (x ∷ t) e = omega arith
-
-pub some_line : (t : List ℕ) → judge_shape t ≡ fine tt → 0 < length (lines t)
-some_line t e = has_line t (leb (length t) (0 + span 10 (drop 0 t))) refl (some_byte t e) e
-
-counted_by : (l seen : ℕ) (k : Line) (hs : List Line) (t : Bool) → leb (seen + length k.body) 1024 ≡ t → (if t then judge_symbols (l + 1) (seen + length k.body) hs else refused COUNT l (4 + (1025 - seen))) ≡ fine tt →
-    (seen + length k.body ≤ 1024 → judge_symbols (l + 1) (seen + length k.body) hs ≡ fine tt → seen + length k.body + total hs ≤ 1024) → seen + (length k.body + total hs) ≤ 1024
-counted_by l seen k hs true p e ih = omega (arith, ih (leb-true (seen + length k.body) 1024 p) e)
-counted_by l seen k hs false p e ih = let z : ◌≡◌ {A = ℕ} 0 1 = cc in absurd (omega arith)
-
-counted : (l seen : ℕ) (hs : List Line) → seen ≤ 1024 → judge_symbols l seen hs ≡ fine tt → seen + total hs ≤ 1024
-unfolding judge_symbols total
-counted l seen [] h e = omega arith
-counted l seen (k ∷ hs) h e = counted_by l seen k hs (leb (seen + length k.body) 1024) refl e (counted (l + 1) (seen + length k.body) hs)
-
-few_by : (L : List Line) (t : Bool) → leb (length L) 64 ≡ t → (if t then judge_symbols 1 0 L else refused COUNT 65 0) ≡ fine tt → (length L ≤ 64) × (total L ≤ 1024)
-few_by L true p e = (leb-true (length L) 64 p, omega (arith, counted 1 0 L (omega arith) e))
-few_by L false p e = let z : ◌≡◌ {A = ℕ} 0 1 = cc in absurd (omega arith)
-
-pub few_lines : (t : List ℕ) → judge_shape t ≡ fine tt → judge_counts (lines t) ≡ fine tt → Counted t
-unfolding judge_counts
-few_lines t s e = let k = few_by (lines t) (leb (length (lines t)) 64) refl e in (s, k.0, k.1)
+few_first : (L : List Line) → 1 ≤ length L → Every Lined L → first_count (map line_signature L) ≤ 8
+unfolding line_signature Every
+few_first [] o l = absurd (omega (arith, o))
+few_first (h ∷ L) o l = l.0.few_arguments
 
 -- NAME by packed names is NAME.
 
@@ -160,183 +107,146 @@ packed_is l E [] p q = refl
 packed_is l E (n ∷ N) p q =
     rw (held_is n E q.0 p, ← map-append packed E (n ∷ []), packed_is (l + 1) (E ++ (n ∷ [])) N (names_more E n p q.0) q.1)
 
-formed : (t : List ℕ) → Right (raw_lines t) → Formed (lines t)
-formed t r = subst Formed (sym (lines_raw t)) (formed_lines (raw_lines t) r)
+named : (t : List ℕ) → Right (raw_lines t) → Names (names (lines t))
+named t r = subst (λ (H : List Line). Names (names H)) (sym (lines_raw t)) (named_lines (raw_lines t) r)
 
-pub names_are : (t : List ℕ) (M : List ℕ) → Right (raw_lines t) → M ≡ map name_number (lines t) → judge_packed 1 [] M ≡ judge_names 1 [] (map (λ h. h.name) (lines t))
+names_are : (t M : List ℕ) → judge_shape t ≡ fine tt → M ≡ map name_number (lines t) → judge_packed 1 [] M ≡ judge_names 1 [] (map (λ h. h.name) (lines t))
 unfolding Names
-names_are t M r e =
-    ap (judge_packed 1 []) (e ∙ names_packed (lines t)) ∙ packed_is 1 [] (map (λ h. h.name) (lines t)) tt (formed_names (lines t) (formed t r))
+names_are t M s e =
+    ap (judge_packed 1 []) (e ∙ names_packed (lines t)) ∙ packed_is 1 [] (map (λ h. h.name) (lines t)) tt (named t (right_shape t s))
 
--- A part of the heads that begins with the signatures.
-lifted : (w v e h b : List ℕ) (n : ℕ) (Q : Program) → Holds Q w v e (take (n - 0) (drop 0 h)) b → Holds Q w v e h b
-lifted w v e h b n Q k =
-    record {
-      words_held = k.words_held;
-      values_held = k.values_held;
-      ends_held = k.ends_held;
-      heads_held =
-          record {
-            rest = k.heads_held.rest ++ drop (n - 0) h;
-            whole = sym (take-append-drop (n - 0) h) ∙ ap (λ (l : List ℕ). l ++ drop (n - 0) h) k.heads_held.whole ∙ append_assoc (signatures Q) k.heads_held.rest (drop (n - 0) h);
-          };
-      bodies_held = k.bodies_held;
-    }
+-- A text whose shape and counts pass, and arrays that begin with the names and signatures of its lines where they are long enough.
+module _ {t N N1 : List ℕ} {H H1 : List Signature} {c : Counted} (r : Scan t N N1 H H1 (Ok c)) where
+  pub shaped : judge_shape t ≡ fine tt
+  shaped = (found_fine _ _ c (sym r.shape_judged)).1
 
-pub lift_heads : (w v e h b : List ℕ) (n : ℕ) (r : Checked) (verdict : Verdict Program) → Outcome verdict w v e (take (n - 0) (drop 0 h)) b r → Outcome verdict w v e h b r
-lift_heads w v e h b n r verdict o = record { answer = o.answer; table = λ Q x. lifted w v e h b n Q (o.table Q x) }
+  pub counted : c ≡ counts_of t
+  counted = (found_fine _ _ c (sym r.shape_judged)).2
 
--- The arrays once the text has been scanned: those that were long enough are, and begin with names and signatures.
-module _ (t N N1 H H1 : List ℕ) (s : Scanned) (c : Scan t N N1 H H1 s) (z : s.number ≡ 0) (x : length N1 ≡ length N) (y : length H1 ≡ length H) where
-  pub noted : Noted (lines t) N1 H1
-  noted =
-      record {
-        names_noted = λ m. ap (take (length (lines t))) (c.names_filled z (omega (arith, m, x))) ∙ take_splice N (length (lines t)) (map name_number (lines t)) (length-map (lines t) name_number);
-        heads_noted = λ m. ap (take (length (lines t))) (c.heads_filled z (omega (arith, m, y))) ∙ take_splice H (length (lines t)) (map line_signature (lines t)) (length-map (lines t) line_signature);
-      }
+  pub reach : c.functions ≡ length (lines t)
+  reach = ap (λ (d : Counted). d.functions) counted
 
-  pub still_fit : (b w v e : List ℕ) → Fit t N H b w v e → Fit t N1 H1 b w v e
-  still_fit b w v e f = record { names_fit = λ k. omega (arith, f.names_fit k, x); heads_fit = λ k. omega (arith, f.heads_fit k, y); room = f.room }
+  module _ (k : Ok tt ≡ shown (judge_counts (lines t))) where
+    pub counts_pass : judge_counts (lines t) ≡ fine tt
+    counts_pass = (found_fine _ _ tt (sym k)).1
 
-  pub shape_passes : judge_shape t ≡ fine tt
-  unfolding judgement
-  shape_passes = passes_fine (judge_shape t) (judgement s.number s.line s.field) c.shape_judged (rw z)
+    pub few : Sized t
+    few = let n = counts_few (lines t) counts_pass in (shaped, n.0, omega (arith, n.1, symbols_total (lines t)))
 
-not_zero : (n l k : ℕ) → (n ≡ 0 → ⊥) → Refused n l k ≡ judgement n l k
-unfolding judgement
-not_zero zero l k z = absurd (z refl)
-not_zero (suc n) l k z = refl
+    module _ {b : List ℕ} {w : List Symbol} {e : List ℕ} (f : Fit t N H b w e) where
+      pub names_reach : c.functions ≤ length N
+      names_reach = omega (arith, reach, f.names_fit few)
 
-pub shape_refused : (t N N1 H H1 : List ℕ) (s : Scanned) → Scan t N N1 H H1 s → (s.number ≡ 0 → ⊥) → Refused s.number s.line s.field ≡ shown (judge_shape t)
-shape_refused t N N1 H H1 s c z = not_zero s.number s.line s.field z ∙ c.shape_judged
+      pub heads_reach : c.functions ≤ length H
+      heads_reach = omega (arith, reach, f.heads_fit few)
 
-module _ (L : List Line) (N H : List ℕ) (k : Noted L N H) (n : ℕ) (e : n ≡ length L) where
-  first_of : (M xs : List ℕ) → take (length L) M ≡ xs → take (n - 0) (drop 0 M) ≡ xs
-  first_of M xs x = let d : n - 0 ≡ length L = omega arith in rw d x
+      pub names_part : take c.functions N1 ≡ map name_number (lines t)
+      names_part =
+          rw reach
+          (ap (take (length (lines t))) (r.names_filled shaped (f.names_fit few)) ∙ take_splice N (length (lines t)) (map name_number (lines t)) (length-map (lines t) name_number))
 
-  pub names_part : length L ≤ length N → take (n - 0) (drop 0 N) ≡ map name_number L
-  names_part m = first_of N (map name_number L) (k.names_noted m)
+      pub names_few : length (take c.functions N1) ≤ most_functions
+      names_few = omega (arith, few.1, ap length names_part, length-map (lines t) name_number)
 
-  pub heads_part : length L ≤ length H → take (n - 0) (drop 0 H) ≡ map line_signature L
-  heads_part m = first_of H (map line_signature L) (k.heads_noted m)
+      pub heads_all : H1 ≡ splice H 0 (map line_signature (lines t))
+      heads_all = r.heads_filled shaped (f.heads_fit few)
+
+      pub heads_part : take c.functions H1 ≡ map line_signature (lines t)
+      heads_part =
+          rw reach
+          (ap (take (length (lines t))) heads_all ∙ take_splice H (length (lines t)) (map line_signature (lines t)) (length-map (lines t) line_signature))
+
+      pub some_head : 0 < length (take c.functions H1)
+      some_head = omega (arith, (shape_lines t shaped).some_line, ap length heads_part, length-map (lines t) line_signature)
+
+      pub entry : first_count (take c.functions H1) ≡ first_count (map line_signature (lines t))
+      entry = ap first_count heads_part
+
+      pub entry_few : first_count (take c.functions H1) ≤ 8
+      entry_few = let k = shape_lines t shaped in omega (arith, entry, few_first (lines t) k.some_line k.each)
+
+      pub passes : length t ≤ most_bytes → Ok tt ≡ shown (judge_packed 1 [] (take c.functions N1)) → check t ≡ read_bodies (lines t) 1 (lines t)
+      passes h x = all_pass t h shaped counts_pass (sym (names_are t _ shaped names_part) ∙ (found_fine _ _ tt (sym x)).1)
+
+      pub names_repeat : {e : Refusal} → Err e ≡ shown (judge_packed 1 [] (take c.functions N1)) → Err e ≡ shown (judge_names 1 [] (map (λ h. h.name) (lines t)))
+      names_repeat x = x ∙ ap shown (names_are t _ shaped names_part)
 
 -- Arrays that fit a text of at most 2 n bytes: where its shape passes, a line takes eight bytes and a symbol two more.
-module _ (t N H b w v e : List ℕ) where
-  bytes : Counted t → 8 * length (lines t) + 2 * total (lines t) ≤ length t
+module _ (t N : List ℕ) (H : List Signature) (b : List ℕ) (w : List Symbol) (e : List ℕ) where
+  bytes : Sized t → 8 * length (lines t) + 2 * total (lines t) ≤ length t
   bytes k = shaped_within t (right_shape t k.0)
 
-  pub fits_half : (n : ℕ) → length t ≤ 2 * n → n ≤ 4 * length N → n ≤ 4 * length H → n ≤ 4 * length b → n + initial_room ≤ length w → n + initial_room ≤ length v → n + initial_room ≤ length e → Fit t N H b w v e
-  fits_half n m p q r x y z =
+  pub fits_half : (n : ℕ) → length t ≤ 2 * n → n ≤ 4 * length N → n ≤ 4 * length H → n ≤ 4 * length b → n + initial_room ≤ length w → n + initial_room ≤ length e → Fit t N H b w e
+  fits_half n m p q r x z =
       record {
         names_fit = λ k. omega (arith, bytes k, m, p);
         heads_fit = λ k. omega (arith, bytes k, m, q);
-        room = λ k. record { bodies_fit = omega (arith, bytes k, m, r); words_fit = omega (arith, bytes k, m, x); values_fit = omega (arith, bytes k, m, y); ends_fit = omega (arith, bytes k, m, z) };
+        room = λ k. record { bodies_fit = omega (arith, bytes k, m, r); symbols_fit = omega (arith, bytes k, m, x); ends_fit = omega (arith, bytes k, m, z) };
       }
 
 -- The table of an accepted text.
 
-begun : (c c1 c2 xs ys : List ℕ) (n : ℕ) → n ≡ length xs → c1 ≡ splice c 0 xs → c2 ≡ splice c1 n ys → Begins c2 (xs ++ ys)
+begun : {A : Type 0} (c c1 c2 xs ys : List A) (n : ℕ) → n ≡ length xs → c1 ≡ splice c 0 xs → c2 ≡ splice c1 n ys → Begins c2 (xs ++ ys)
 begun c c1 c2 xs ys n l p q =
     let e : 0 + n ≡ n = omega arith in
     record { rest = drop (length (xs ++ ys)) c; whole = q ∙ rw p (ap (λ (k : ℕ). splice (splice c 0 xs) k ys) (sym e) ∙ splice_more c 0 n xs ys (sym l) (omega arith)) }
 
-upto_length : (n a : ℕ) → length (upto n a) ≡ n
-unfolding upto
-upto_length zero a = refl
-upto_length (suc n) a = ap suc (upto_length n (suc a))
+-- A slice that was written from its beginning.
+written : {A : Type 0} (c c1 xs : List A) → c1 ≡ splice c 0 xs → Begins c1 xs
+written c c1 xs e = record { rest = drop (length xs) c; whole = e }
 
-zeros_length : (n : ℕ) → length (zeros n) ≡ n
-unfolding zeros
-zeros_length zero = refl
-zeros_length (suc n) = ap suc (zeros_length n)
-
-module _ (w w1 w2 v v1 v2 e e1 e2 b b1 S : List ℕ) (n first : ℕ) (f : first ≡ n + 1) (x : w1 ≡ splice w 0 (32 ∷ upto n 1)) (y : v1 ≡ splice v 0 (0 ∷ zeros n)) (z : e1 ≡ splice e 0 ((n + 1) ∷ upto n 2)) where
-  tabled : (F : Function) (P : Program) → length F.sorts ≡ n → F.strict ≤ n → S ≡ signatures (F ∷ P) → b1 ≡ splice b 0 (addresses_from first (F ∷ P)) → w2 ≡ splice w1 first (bodies_words (F ∷ P)) → v2 ≡ splice v1 first (bodies_values (F ∷ P)) → e2 ≡ splice e1 first (bodies_ends (F ∷ P) first) →
-      Holds (F ∷ P) w2 v2 e2 S b1
-  unfolding table_words table_values table_ends addresses
-  tabled F P l k s p q r u =
-      let d : size (initial (F ∷ P)) ≡ first = initial_size F P n l k ∙ sym f in
+module _ (w w1 w2 : List Symbol) (e e1 e2 b b1 : List ℕ) (H H1 : List Signature) (n first : ℕ) (f : first ≡ n + 1) (x : w1 ≡ splice w 0 (Call 0 ∷ map Argument (range_with_len 0 n))) (z : e1 ≡ splice e 0 ((n + 1) ∷ range_with_len 2 n)) where
+  tabled : (F : Function) (P : Program) → length F.sorts ≡ n → F.strict ≤ length F.sorts → H1 ≡ splice H 0 (signatures (F ∷ P)) → b1 ≡ splice b 0 (addresses_from first (F ∷ P)) →
+      w2 ≡ splice w1 first (bodies_symbols (F ∷ P)) → e2 ≡ splice e1 first (bodies_ends (F ∷ P) first) → Holds (F ∷ P) w2 e2 H1 b1
+  unfolding table_symbols table_ends addresses
+  tabled F P l k s p q u =
+      let d : size (initial (F ∷ P)) ≡ first = omega (arith, initial_size F P k, l, f) in
+      let g : F.strict ≤ n = omega (arith, k, l) in
       record {
-        words_held = rw (initial_words F P n l k) (begun w w1 w2 (32 ∷ upto n 1) (bodies_words (F ∷ P)) first (omega (arith, f, upto_length n 1)) x q);
-        values_held = rw (initial_values F P n l k) (begun v v1 v2 (0 ∷ zeros n) (bodies_values (F ∷ P)) first (omega (arith, f, zeros_length n)) y r);
-        ends_held = rw (initial_ends F P n l k, d) (begun e e1 e2 ((n + 1) ∷ upto n 2) (bodies_ends (F ∷ P) first) first (omega (arith, f, upto_length n 2)) z u);
-        heads_held = record { rest = []; whole = s ∙ sym (append-nil (signatures (F ∷ P))) };
-        bodies_held = record { rest = drop (length (addresses_from (size (initial (F ∷ P))) (F ∷ P))) b; whole = p ∙ rw d refl };
+        symbols_held = rw (initial_symbols F P n l g) (begun w w1 w2 (Call 0 ∷ map Argument (range_with_len 0 n)) (bodies_symbols (F ∷ P)) first (omega (arith, f, length-map (range_with_len 0 n) Argument, length-range_with_len 0 n)) x q);
+        ends_held = rw (initial_ends F P n l g, d) (begun e e1 e2 ((n + 1) ∷ range_with_len 2 n) (bodies_ends (F ∷ P) first) first (omega (arith, f, length-range_with_len 2 n)) z u);
+        heads_held = written H H1 (signatures (F ∷ P)) s;
+        bodies_held = written b b1 _ (rw d p);
       }
 
-  held : (L : List Line) (P : Program) → 0 < length L → Formed L → Of P L → S ≡ map line_signature L → n ≡ get_or S 0 0 % 16 → b1 ≡ splice b 0 (addresses_from first P) → w2 ≡ splice w1 first (bodies_words P) → v2 ≡ splice v1 first (bodies_values P) → e2 ≡ splice e1 first (bodies_ends P first) →
-      (Holds P w2 v2 e2 S b1) × (size (initial P) ≡ first)
-  unfolding Of Formed line_signature
-  held [] P o F k s m p q r u = absurd (omega (arith, o))
-  held (h ∷ L) [] o F k s m p q r u = absurd k
-  held (h ∷ L) (G ∷ P) o F k s m p q r u =
-      let c : length G.sorts ≡ n = ap length k.0 ∙ sym (signature_count h.sorts h.strict h.result F.1) ∙ sym (m ∙ ap (λ (X : List ℕ). get_or X 0 0 % 16) s) in
-      let g : G.strict ≤ n = omega (arith, k.1, F.2, c, ap length k.0) in
-      (tabled G P c g (s ∙ sym (of_signatures (G ∷ P) (h ∷ L) k)) p q r u, initial_size G P n c g ∙ sym f)
+  held : (L : List Line) (P : Program) → Accepted P → Of P L → n ≡ first_count (map line_signature L) → H1 ≡ splice H 0 (map line_signature L) → b1 ≡ splice b 0 (addresses_from first P) →
+      w2 ≡ splice w1 first (bodies_symbols P) → e2 ≡ splice e1 first (bodies_ends P first) → (Holds P w2 e2 H1 b1) × (size (initial P) ≡ first)
+  unfolding Of Every line_signature
+  held L [] a k m s p q u = absurd (omega (arith, a.some_function))
+  held [] (F ∷ P) a k m s p q u = absurd k
+  held (h ∷ L) (F ∷ P) a k m s p q u =
+      let o = a.sound.0 in
+      let c : length F.sorts ≡ n = ap length k.0 ∙ sym m in
+      (tabled F P c o.few_strict (s ∙ ap (splice H 0) (sym (of_signatures (F ∷ P) (h ∷ L) k))) p q u, omega (arith, initial_size F P o.few_strict, c, f))
 
--- The verdict on the bodies, and what reading them came to.
-accepted_checked : (P : Program) (f i : ℕ) → f ≡ length P → i ≡ length (translation P) → acceptance f i ≡ checked (fine P)
-unfolding acceptance checked
-accepted_checked P f i x y = rw (x, y)
+  -- The verdict on the bodies, and what reading them came to.
+  module _ (t : List ℕ) (functions : ℕ) (l : functions ≡ length (lines t)) (m : n ≡ first_count (map line_signature (lines t))) (s : H1 ≡ splice H 0 (map line_signature (lines t))) (pass : check t ≡ read_bodies (lines t) 1 (lines t)) (end : ℕ) where
+    done_by : (V : Verdict Program) → check t ≡ V → Finishes 0 first b b1 w1 w2 e1 e2 V (Ok end) →
+        (Ok (record { functions = functions; instructions = end + 1 }) ≡ found accepted V) × ((P : Program) → V ≡ fine P → Holds P w2 e2 H1 b1)
+    unfolding Finishes found ret_address
+    done_by (refused i l k) q o = absurd (cc o)
+    done_by (fine P) q o =
+        let a = theorem.accepted t P q in
+        let k = of_bodies (lines t) 1 (lines t) P (sym pass ∙ q) in
+        let h = held (lines t) P a k m s o.1 o.2 o.3 in
+        let c : functions ≡ length P = l ∙ sym (of_length P (lines t) k) in
+        let d : end ≡ first + bodies_size P = cc in
+        let i : end + 1 ≡ length (translation P) = omega (arith, translation_length P, h.1, d) in
+        (rw (c, i), λ Q j. let same : P ≡ Q = cc in subst (λ (R : Program). Holds R w2 e2 H1 b1) same h.0)
 
-same_program : {P Q : Program} → fine P ≡ fine Q → P ≡ Q
-same_program e = cc
+    pub done : Finishes 0 first b b1 w1 w2 e1 e2 (read_bodies (lines t) 1 (lines t)) (Ok end) →
+        (Ok (record { functions = functions; instructions = end + 1 }) ≡ found accepted (check t)) × ((P : Program) → check t ≡ fine P → Holds P w2 e2 H1 b1)
+    done o = done_by (check t) refl (subst (λ (V : Verdict Program). Finishes 0 first b b1 w1 w2 e1 e2 V (Ok end)) (sym pass) o)
 
-not_done : {A : Type 0} {g : Finished} {m n l k : ℕ} → g ≡ finished.Done m → g ≡ finished.Refused n l k → A
-not_done p q = let z : ◌≡◌ {A = ℕ} 0 1 = cc in absurd (omega arith)
-
-done_is : {g : Finished} {m n : ℕ} → g ≡ finished.Done m → g ≡ finished.Done n → n ≡ m
-done_is p q = cc
-
-same_refusal : (g : Finished) (m i j n l k : ℕ) → g ≡ finished.Refused m i j → g ≡ finished.Refused n l k → refusal n l k ≡ refusal m i j
-same_refusal g m i j n l k p q =
-    let a : n ≡ m = cc in
-    let b : l ≡ i = cc in
-    let c : k ≡ j = cc in
-    rw (a, b, c)
-
-module _ (t : List ℕ) (w w1 w2 v v1 v2 e e1 e2 b b1 S : List ℕ) (n first : ℕ) (f : first ≡ n + 1) (x : w1 ≡ splice w 0 (32 ∷ upto n 1)) (y : v1 ≡ splice v 0 (0 ∷ zeros n)) (z : e1 ≡ splice e 0 ((n + 1) ∷ upto n 2))
-    (right : Right (raw_lines t)) (some : 0 < length (lines t)) (s : S ≡ map line_signature (lines t)) (m : n ≡ get_or S 0 0 % 16) (g : Finished) where
-  done_by : (verdict : Verdict Program) (end : ℕ) (r : Checked) → read_bodies (lines t) 1 (lines t) ≡ verdict → Finishes 0 first b b1 w1 w2 v1 v2 e1 e2 verdict g → g ≡ finished.Done end → r ≡ acceptance (length S) (end + 1) → Outcome verdict w2 v2 e2 S b1 r
-  unfolding Finishes
-  done_by (refused i l k) end r q o d a = not_done d o
-  done_by (fine P) end r q o d a =
-      let k = of_bodies (lines t) 1 (lines t) P q in
-      let H = held w w1 w2 v v1 v2 e e1 e2 b b1 S n first f x y z (lines t) P some (formed t right) k s m o.1 o.2 o.3 o.4 in
-      let count : length S ≡ length P = ap length s ∙ length-map (lines t) line_signature ∙ sym (of_length P (lines t) k) in
-      let instructions : end + 1 ≡ length (translation P) = omega (arith, done_is o.0 d, H.1, translation_length P) in
-      record { answer = a ∙ accepted_checked P (length S) (end + 1) count instructions; table = λ Q i. subst (λ (R : Program). Holds R w2 v2 e2 S b1) (same_program i) H.0 }
-
-  pub named_done : (end : ℕ) (r : Checked) → Finishes 0 first b b1 w1 w2 v1 v2 e1 e2 (read_bodies (lines t) 1 (lines t)) g → g ≡ finished.Done end → r ≡ acceptance (length S) (end + 1) → Outcome (after_names t) w2 v2 e2 S b1 r
-  unfolding after_names
-  named_done end r o d a = done_by (read_bodies (lines t) 1 (lines t)) end r refl o d a
-
-  refused_by : (verdict : Verdict Program) (i l k : ℕ) (r : Checked) → Finishes 0 first b b1 w1 w2 v1 v2 e1 e2 verdict g → g ≡ finished.Refused i l k → r ≡ refusal i l k → Outcome verdict w2 v2 e2 S b1 r
-  unfolding Finishes
-  refused_by (fine P) i l k r o d a = not_done o.0 d
-  refused_by (refused q u j) i l k r o d a = record { answer = a ∙ same_refusal g (no q) u j i l k o d ∙ refused_checked q u j; table = λ P p. no_program p }
-
-  pub named_refused : (i l k : ℕ) (r : Checked) → Finishes 0 first b b1 w1 w2 v1 v2 e1 e2 (read_bodies (lines t) 1 (lines t)) g → g ≡ finished.Refused i l k → r ≡ refusal i l k → Outcome (after_names t) w2 v2 e2 S b1 r
-  unfolding after_names
-  named_refused i l k r o d a = refused_by (read_bodies (lines t) 1 (lines t)) i l k r o d a
-
--- Bounds.
-
-few_first : (L : List Line) (S : List ℕ) → Formed L → 0 < length L → S ≡ map line_signature L → get_or S 0 0 % 16 ≤ 8
-unfolding Formed line_signature
-few_first [] S F o s = absurd (omega (arith, o))
-few_first (h ∷ L) S F o s = rw s (omega (arith, signature_count h.sorts h.strict h.result F.1, F.1))
-
-pub first_few : (t S : List ℕ) → Right (raw_lines t) → 0 < length (lines t) → S ≡ map line_signature (lines t) → get_or S 0 0 % 16 ≤ 8
-first_few t S r o s = few_first (lines t) S (formed t r) o s
-
-end_by : (L : List Line) (first end : ℕ) (b b1 w w1 v v1 e e1 : List ℕ) (verdict : Verdict Program) (g : Finished) → read_bodies L 1 L ≡ verdict → Finishes 0 first b b1 w w1 v v1 e e1 verdict g → g ≡ finished.Done end → end ≡ first + total L
+-- The address after the last body.
+pub end_few : (t : List ℕ) (l first end : ℕ) (b b1 : List ℕ) (w w1 : List Symbol) (e e1 : List ℕ) (V : Verdict Program) → check t ≡ V → first ≤ 9 → Finishes l first b b1 w w1 e e1 V (Ok end) → end ≤ 1033
 unfolding Finishes
-end_by L first end b b1 w w1 v v1 e e1 (fine P) g q o d = done_is o.0 d ∙ ap (λ (n : ℕ). first + n) (sizes_of L 1 L P q)
-end_by L first end b b1 w w1 v v1 e e1 (refused n l k) g q o d = not_done d o
+end_few t l first end b b1 w w1 e e1 (refused n i k) q h o = absurd (cc o)
+end_few t l first end b b1 w w1 e e1 (fine P) q h o =
+    let d : end ≡ first + bodies_size P = cc in omega (arith, h, d, (theorem.accepted t P q).few_symbols)
 
-pub end_is : (L : List Line) (first end : ℕ) (b b1 w w1 v v1 e e1 : List ℕ) (g : Finished) → Finishes 0 first b b1 w w1 v v1 e e1 (read_bodies L 1 L) g → g ≡ finished.Done end → end ≡ first + total L
-end_is L first end b b1 w w1 v v1 e e1 g o d = end_by L first end b b1 w w1 v v1 e e1 (read_bodies L 1 L) g refl o d
-
-pub accept : (f g i j : ℕ) → f ≡ g → i ≡ j → acceptance f i ≡ acceptance g j
-accept f g i j x y = rw (x, y)
+-- A body is refused.
+pub unread : (l from : ℕ) (b b1 : List ℕ) (w w1 : List Symbol) (e e1 : List ℕ) (V : Verdict Program) (x : Refusal) → Finishes l from b b1 w w1 e e1 V (Err x) → Err x ≡ found accepted V
+unfolding Finishes found
+unread l from b b1 w w1 e e1 (fine P) x o = absurd (cc o.0)
+unread l from b b1 w w1 e e1 (refused n i k) x o = cc

@@ -4,25 +4,14 @@
 // Assumes of std that the bytes of standard input arrive in the buffer and those of the line are written.
 #![tactic(auto)]
 
-ghost use Rattle.std.specs.Prelude.{◌≤◌, length};
-
 use meaning::{MOST_CODE_WORDS, WORK_WORDS};
 use order::MOST_INPUT;
-use printing::Printed;
 use std::io;
-
-fn show(rt: &impl Print, line: Printed) -> io::Result<()>
-    requires { line.len ≤ length line.bytes }
-{
-    let bytes = line.bytes;
-    let len = line.len;
-    rt.write_all(&bytes[..len])
-}
 
 fn main(rt: HostRuntime) -> io::Result<()> {
     let mut input = [0u8; MOST_INPUT];
     let mut code = [0u32; MOST_CODE_WORDS];
     let mut work = [0u32; WORK_WORDS];
     let n = intake::read_full(&rt, &mut input)?;
-    show(&rt, console::respond(&input[..n], &mut code, &mut work))
+    rt.print(console::respond(&input[..n], &mut code, &mut work))
 }

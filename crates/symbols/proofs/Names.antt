@@ -2,7 +2,7 @@
 use Rattle.std.specs.Prelude.{if◌then◌else◌}
 use mathlib.Core.Path.{◌≡◌, refl, ap, sym, ◌∙◌}
 use mathlib.Core.List.{List, [], ◌∷◌, map}
-use mathlib.Core.Bool.{Bool, true, false, ◌&&◌, ◌||◌}
+use mathlib.Core.Bool.{Bool, true, false, ◌&&◌, ◌||◌, and-false, false≢true}
 use Prim.Native.Nat.{ℕ, suc, ◌+◌, ◌<◌, ◌≤◌}
 use native.Mathlib.Omega.{arith}
 use lib.Dec.{ltb, leb, eqb}
@@ -11,11 +11,12 @@ use borrow.Author.Tests.{ne_eqb, ltb-true, leb-true}
 use Rattle.meaning.specs.Basics.{all, between, bytes}
 use Rattle.meaning.specs.Arithmetic.{number, yes_no, constant}
 use Rattle.meaning.specs.Text.{Field, same, value, is_name, is_visible, is_capital, is_digit}
-use Rattle.meaning.specs.Terms.{Symbol, operation, condition, function, unknown, Word, vocabulary, spelt_in, named, is_decimal, symbol}
+use Rattle.meaning.specs.Terms.{Symbol, operation, condition, unknown, Word, vocabulary, spelt_in, named, is_decimal, symbol}
 use Rattle.fields.specs.Fields.{packed, is_name_byte}
-use Rattle.fields.proofs.Laws.{and_false, and_left, and_right, Bytes, packed_same}
-use Rattle.symbols.specs.Symbols.{recognised, Named, Spelt, AllSpelt, named_as, short_symbol, or_else, one_byte_symbol, decimal_or, some_bytes_symbol, symbol_by}
-use Rattle.symbols.specs.declared.Recognised.{Recognised}
+use Rattle.fields.proofs.Laws.{and_left, and_right, Bytes, packed_same}
+use Rattle.table.specs.Symbols.{symbol_in}
+use Rattle.table.specs.declared.Symbol.{Symbol as Entry}
+use Rattle.symbols.specs.Symbols.{Named, named_as, short_symbol, or_else, one_byte_symbol, decimal_or, some_bytes_symbol, symbol_by}
 
 -- Names and visible fields are made of bytes from 1 to 255.
 
@@ -52,7 +53,7 @@ pub record Name (f : Field) : Type 0 where
 
 pub is_a_name : (f : Field) → is_name f ≡ true → Name f
 unfolding is_name Bytes
-is_a_name [] e = let z : ◌≡◌ {A = ℕ} 0 1 = cc in absurd (omega arith)
+is_a_name [] e = absurd (false≢true e)
 is_a_name (x ∷ f) e =
     let p = range_bytes 65 90 x (and_left (is_capital x) (leb (length f) 7 && all is_name_byte f) e) (omega arith) (omega arith) in
     let q = and_right (is_capital x) (leb (length f) 7 && all is_name_byte f) e in
@@ -75,7 +76,7 @@ unfolding same
 other_lengths [] [] h = absurd (h refl)
 other_lengths [] (y ∷ g) h = refl
 other_lengths (x ∷ f) [] h = refl
-other_lengths (x ∷ f) (y ∷ g) h = rw (other_lengths f g λ e. h (ap suc e)) (and_false (eqb x y))
+other_lengths (x ∷ f) (y ∷ g) h = rw (other_lengths f g λ e. h (ap suc e)) (and-false (eqb x y))
 
 named_long : (i : ℕ) (N : List Field) (f : Field) → Names N → 8 < length f → named i N f ≡ unknown
 unfolding named Names
@@ -165,39 +166,7 @@ named_names [] p = tt
 named_names (n ∷ N) p = (is_a_name n p.0, named_names N p.1)
 
 -- Where the packed names are those of N, a visible field is N's symbol.
-pub meant : (M : List ℕ) (f : Field) (r : Recognised) → r ≡ recognised (symbol_by M f) →
-    (r ≡ recognised (symbol_by M f)) × ((N : List Field) → Named N → M ≡ map packed N → is_visible f ≡ true → r ≡ recognised (symbol N f))
+pub meant : (M : List ℕ) (f : Field) (r : Entry) → r ≡ symbol_in (symbol_by M f) →
+    (r ≡ symbol_in (symbol_by M f)) × ((N : List Field) → Named N → M ≡ map packed N → is_visible f ≡ true → r ≡ symbol_in (symbol N f))
 meant M f r e =
-    (e, λ N p m v. e ∙ ap (λ (X : List ℕ). recognised (symbol_by X f)) m ∙ ap recognised (symbol_is N f (named_names N p) (visible_bytes f v)))
-
--- Of the symbols of a text, the arguments are a to h.
-WordsSpelt : List Word → Type 0
-WordsSpelt [] = Unit {0}
-WordsSpelt (w ∷ ws) = Spelt w.means × WordsSpelt ws
-
-words_spelt : WordsSpelt vocabulary
-unfolding WordsSpelt Spelt
-words_spelt = (omega arith, (omega arith, (omega arith, (omega arith, (omega arith, (omega arith, (omega arith, (omega arith, (tt, (tt, (tt, (tt, (tt, (tt, (tt, (tt, (tt, (tt, (tt, (tt, (tt, tt)))))))))))))))))))))
-
-if_spelt : (t : Bool) (y z : Symbol) → Spelt y → Spelt z → Spelt (if t then y else z)
-if_spelt true y z p q = p
-if_spelt false y z p q = q
-
-spelt_spelt : (ws : List Word) (f : Field) (y : Symbol) → WordsSpelt ws → Spelt y → Spelt (spelt_in ws f y)
-unfolding spelt_in WordsSpelt
-spelt_spelt [] f y p q = q
-spelt_spelt (w ∷ ws) f y p q = if_spelt (same f w.spelt) w.means (spelt_in ws f y) p.0 (spelt_spelt ws f y p.1 q)
-
-named_spelt : (i : ℕ) (N : List Field) (f : Field) → Spelt (named i N f)
-unfolding named Spelt
-named_spelt i [] f = tt
-named_spelt i (n ∷ N) f = if_spelt (same f n) (function i) (named (i + 1) N f) tt (named_spelt (i + 1) N f)
-
-pub symbol_spelt : (N : List Field) (f : Field) → Spelt (symbol N f)
-unfolding symbol Spelt
-symbol_spelt N f = spelt_spelt vocabulary f _ words_spelt (if_spelt (is_decimal f) (operation (constant number (value f))) (named 0 N f) tt (named_spelt 0 N f))
-
-pub all_symbols_spelt : (N fs : List Field) → AllSpelt (map (symbol N) fs)
-unfolding AllSpelt
-all_symbols_spelt N [] = tt
-all_symbols_spelt N (f ∷ fs) = (symbol_spelt N f, all_symbols_spelt N fs)
+    (e, λ N p m v. e ∙ ap (λ (X : List ℕ). symbol_in (symbol_by X f)) m ∙ ap symbol_in (symbol_is N f (named_names N p) (visible_bytes f v)))

@@ -1,1 +1,2 @@
-pub mod Signatures
+pub mod Masks
+pub mod Symbols

@@ -1,47 +1,149 @@
-// The table of symbols that Check's core fills and Translate's core reads: definitions in specs/. No functions.
+// The table that Check's core fills and Translate's core reads: the types of what stands in it, and the table. What it holds of a program is defined in
+// specs/. Assumes nothing.
 #![tactic(auto)]
 
-// Words of symbols: an unknown one, arguments, constants (a number, then `true` and `false`), operations, `cond` and functions.
-pub const UNKNOWN: u32 = 0;
+ghost use Rattle.std.specs.Prelude.{◌≡◌, ◌%◌, get_or};
+ghost use Rattle.table.specs.declared.Symbol.TheVariants.{Unknown};
+ghost use Rattle.table.specs.Symbols.{sort_of_bit, sort_at, sort_word};
 
-pub const FIRST_ARGUMENT: u32 = 1;
+use word::Operation;
 
-pub const FIRST_CONSTANT: u32 = 9;
+// "n (number) or b (yes/no)"
+#[derive(Clone, Copy, PartialEq, Eq)]
+pub enum Sort {
+    Number,
+    YesNo,
+}
 
-pub const TRUTH: u32 = 10;
+impl Sort {
+    // The sort that the lowest bit of a mask says.
+    pub fn lowest(mask: u32) -> Self
+        ensures { result ≡ sort_of_bit (mask % 2) }
+    {
+        match mask % 2 {
+            0 => Sort::Number,
+            _ => Sort::YesNo,
+        }
+    }
+}
 
-// The operations `+ - * / % = < & | !`.
-pub const FIRST_OPERATION: u32 = 11;
+// "n 0, b 1"
+impl From<Sort> for u32 {
+    ghost from_gives = { λ s n. n ≡ sort_word s };
 
-pub const ADD: u32 = FIRST_OPERATION;
+    fn from(sort: Sort) -> u32 {
+        sort as u32
+    }
+}
 
-pub const SUB: u32 = 12;
+// A row of sorts: how many, and a mask in which a bit is set for each yes/no, the first in the lowest bit.
+#[derive(Clone, Copy)]
+pub struct Sorts {
+    pub count: u32,
+    pub mask: u32,
+}
 
-pub const MUL: u32 = 13;
+impl Sorts {
+    // The i-th, counted from 0.
+    pub fn get(self, i: u32) -> Option<Sort>
+        ensures { result ≡ sort_at self i }
+    {
+        if self.count <= i {
+            return None;
+        }
+        Some(Sort::lowest(self.mask.checked_shr(i)?))
+    }
+}
 
-pub const DIV: u32 = 14;
+// What a function takes and gives, and how many of its arguments are strict.
+#[derive(Clone, Copy)]
+pub struct Signature {
+    pub sorts: Sorts,
+    pub strict: u32,
+    pub result: Sort,
+}
 
-pub const REM: u32 = 15;
+// A symbol of a body: an argument and a function by their numbers, a constant by sort and value.
+#[derive(Clone, Copy)]
+pub enum Symbol {
+    Unknown,
+    Argument(u32),
+    Constant(Sort, u32),
+    Operation(Operation),
+    Not,
+    Cond,
+    Function(u32),
+}
 
-pub const EQ: u32 = 16;
+// Room for F functions and S symbols: of each function its name as one number, its signature and the address of its body; of each symbol what it is, and
+// the address after the term that begins with it.
+#[derive(Drop)]
+pub struct Table<const F: usize, const S: usize> {
+    pub names: [u64; F],
+    pub heads: [Signature; F],
+    pub bodies: [u32; F],
+    pub symbols: [Symbol; S],
+    pub ends: [u32; S],
+}
 
-pub const LT: u32 = 17;
+impl<const F: usize, const S: usize> Table<F, S> {
+    pub fn new() -> Self {
+        let none = Signature {
+            sorts: Sorts { count: 0, mask: 0 },
+            strict: 0,
+            result: Sort::Number,
+        };
+        Table {
+            names: [0; F],
+            heads: [none; F],
+            bodies: [0; F],
+            symbols: [Symbol::Unknown; S],
+            ends: [0; S],
+        }
+    }
 
-pub const AND: u32 = 18;
+    // The table as Translate reads it.
+    pub fn view(&self) -> View<'_>
+        ensures functions { result.heads.now ≡ self.now.heads }
+        ensures symbols { (result.symbols.now ≡ self.now.symbols) × (result.ends.now ≡ self.now.ends) }
+    {
+        View {
+            heads: &self.heads,
+            symbols: &self.symbols,
+            ends: &self.ends,
+        }
+    }
+}
 
-pub const OR: u32 = 19;
+// A table's signatures and symbols, to read.
+#[derive(Clone, Copy)]
+pub struct View<'a> {
+    pub heads: &'a [Signature],
+    pub symbols: &'a [Symbol],
+    pub ends: &'a [u32],
+}
 
-pub const NOT: u32 = 20;
+// Of the symbol at an address: what it is, and the address after the term that begins with it; past the table it is unknown, and the address 0.
+impl View<'_> {
+    pub fn symbol(&self, at: u32) -> Symbol
+        ensures { result ≡ get_or self.now.symbols.now at Unknown }
+    {
+        self.symbols
+            .get(at as usize)
+            .copied()
+            .unwrap_or(Symbol::Unknown)
+    }
 
-pub const COND: u32 = 21;
+    pub fn end(&self, at: u32) -> u32
+        ensures { result ≡ get_or self.now.ends.now at 0 }
+    {
+        word_at(self.ends, at)
+    }
+}
 
-pub const FIRST_FUNCTION: u32 = 32;
-
-// A function's signature: below the first the number of arguments, then the result's sort, then the mask of the sorts (one of so many), then the strict count.
-pub const RESULT_UNIT: u32 = 16;
-
-pub const SORTS_UNIT: u32 = 32;
-
-pub const MASKS: u32 = 256;
-
-pub const STRICT_UNIT: u32 = SORTS_UNIT * MASKS;
+// A word of a slice, 0 past its end.
+pub fn word_at(words: &[u32], at: u32) -> u32
+    ensures { result ≡ get_or words.now at 0 }
+{
+    words.get(at as usize).copied().unwrap_or(0)
+}

@@ -3,17 +3,20 @@ use Rattle.std.specs.Prelude.{if◌then◌else◌}
 use mathlib.Core.Path.{◌≡◌, refl, ap, sym, ◌∙◌, subst}
 use mathlib.Core.Bool.{Bool, true, false}
 use mathlib.Core.Option.{Option, none, some}
-use mathlib.Core.List.{List, [], ◌∷◌, ◌++◌, map, append_assoc, append-nil}
+use mathlib.Core.List.{List, [], ◌∷◌, ◌++◌, map, map-append, append_assoc, append-nil}
 use Prim.Native.Nat.{ℕ, zero, suc, ◌+◌, ◌<◌, ◌≤◌}
 use native.Mathlib.Omega.{arith}
 use lib.ListN.{length, length-append, get_elem?}
-use Rattle.meaning.specs.Arithmetic.{Sort, yes_no, Op, op_constant}
+use Rattle.meaning.specs.Arithmetic.{Sort, yes_no, Op}
 use Rattle.meaning.specs.Text.{Line}
 use Rattle.meaning.specs.Terms.{Term, arg, op, cond, call, Terms, nil, cons, Symbol, argument, operation, condition, function, unknown, Takes, takes, cannot, Read, got, fault, first_terms, other_terms, strict_of, condition_of, applied, with_arguments, and_more, then_more, read_row, read_taken, read_term, argument_takes, takes_of, same_sort, if_sort}
 use Rattle.meaning.specs.Code.{size, sizes, count}
 use Rattle.meaning.specs.declared.Wrong.{Wrong}
 use Rattle.accepted.proofs.Reading.{parted_sizes}
-use Rattle.table.specs.Table.{symbol_word, symbol_value, op_word, term_words, row_words, term_values, row_values, term_ends, row_ends}
+use Rattle.table.specs.Symbols.{op_symbol, symbol_in}
+use Rattle.table.specs.Table as table
+use Rattle.table.specs.Table.{term_ends, row_ends}
+use Rattle.table.specs.declared.Symbol.{Symbol as Entry}
 
 unfoldable mutual
   pub term_symbols : Term → List Symbol
@@ -26,38 +29,20 @@ unfoldable mutual
   row_symbols nil = []
   row_symbols (cons t ts) = term_symbols t ++ row_symbols ts
 
-pub map_append : (f : Symbol → ℕ) (xs ys : List Symbol) → map f (xs ++ ys) ≡ map f xs ++ map f ys
-map_append f [] ys = refl
-map_append f (x ∷ xs) ys = ap (λ (l : List ℕ). f x ∷ l) (map_append f xs ys)
-
--- Its words, its values, and how many they are.
+-- Its symbols in the table, and how many they are.
 mutual
-  unfolding term_symbols term_words symbol_word
+  unfolding term_symbols table.term_symbols symbol_in
 
-  pub words_are : (t : Term) → term_words t ≡ map symbol_word (term_symbols t)
-  words_are (arg i) = refl
-  words_are (op o ts) = ap (λ (l : List ℕ). op_word o ∷ l) (row_words_are ts)
-  words_are (cond t x y) =
-      rw (map_append symbol_word (term_symbols t) (term_symbols x ++ term_symbols y), map_append symbol_word (term_symbols x) (term_symbols y), words_are t, words_are x, words_are y)
-  words_are (call f ss ws) = rw (map_append symbol_word (row_symbols ss) (row_symbols ws), row_words_are ss, row_words_are ws)
+  pub symbols_are : (t : Term) → table.term_symbols t ≡ map symbol_in (term_symbols t)
+  symbols_are (arg i) = refl
+  symbols_are (op o ts) = ap (λ (l : List Entry). op_symbol o ∷ l) (row_symbols_are ts)
+  symbols_are (cond t x y) =
+      rw (map-append symbol_in (term_symbols t) (term_symbols x ++ term_symbols y), map-append symbol_in (term_symbols x) (term_symbols y), symbols_are t, symbols_are x, symbols_are y)
+  symbols_are (call f ss ws) = rw (map-append symbol_in (row_symbols ss) (row_symbols ws), row_symbols_are ss, row_symbols_are ws)
 
-  pub row_words_are : (ts : Terms) → row_words ts ≡ map symbol_word (row_symbols ts)
-  row_words_are nil = refl
-  row_words_are (cons t ts) = rw (map_append symbol_word (term_symbols t) (row_symbols ts), words_are t, row_words_are ts)
-
-mutual
-  unfolding term_symbols term_values symbol_value
-
-  pub values_are : (t : Term) → term_values t ≡ map symbol_value (term_symbols t)
-  values_are (arg i) = refl
-  values_are (op o ts) = ap (λ (l : List ℕ). op_constant o ∷ l) (row_values_are ts)
-  values_are (cond t x y) =
-      rw (map_append symbol_value (term_symbols t) (term_symbols x ++ term_symbols y), map_append symbol_value (term_symbols x) (term_symbols y), values_are t, values_are x, values_are y)
-  values_are (call f ss ws) = rw (map_append symbol_value (row_symbols ss) (row_symbols ws), row_values_are ss, row_values_are ws)
-
-  pub row_values_are : (ts : Terms) → row_values ts ≡ map symbol_value (row_symbols ts)
-  row_values_are nil = refl
-  row_values_are (cons t ts) = rw (map_append symbol_value (term_symbols t) (row_symbols ts), values_are t, row_values_are ts)
+  pub row_symbols_are : (ts : Terms) → table.row_symbols ts ≡ map symbol_in (row_symbols ts)
+  row_symbols_are nil = refl
+  row_symbols_are (cons t ts) = rw (map-append symbol_in (term_symbols t) (row_symbols ts), symbols_are t, row_symbols_are ts)
 
 mutual
   unfolding term_symbols size

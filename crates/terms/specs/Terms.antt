@@ -1,105 +1,132 @@
--- Terms over words: what a symbol takes by its word, and what reading a term answers and leaves in the table of ends. Assumes nothing.
-use Rattle.std.specs.Prelude.{◌≡◌, List, [], ◌∷◌, map, ℕ, ◌+◌, ◌-◌, ◌*◌, ◌/◌, ◌%◌, ◌^◌, ◌≤◌, ltb, eqb, length, get_or, drop, if◌then◌else◌}
+-- Terms over the table's symbols: what a symbol takes, and what reading a term answers and leaves in the table of ends. Assumes nothing.
+use Rattle.std.specs.Prelude.{◌≡◌, List, map, ℕ, ◌+◌, ◌-◌, ◌*◌, ◌≤◌, leb, eqb, length, get_or, slice_get, drop, if◌then◌else◌, Option, Some, None, Result, Ok, Err}
 use Rattle.meaning.specs.Numbers.{most_arguments, most_depth}
-use Rattle.meaning.specs.Arithmetic.{Sort}
+use Rattle.meaning.specs.Arithmetic as arithmetic
 use Rattle.meaning.specs.Text.{Line}
 use Rattle.meaning.specs.Terms as means
-use Rattle.meaning.specs.Terms.{Term, Terms, Symbol, Read, got, fault, read_term, read_row, nothing_after}
+use Rattle.meaning.specs.Terms.{Term, Terms, Read, got, fault, read_term, read_row, nothing_after}
 use Rattle.meaning.specs.Code.{size, sizes}
-use Rattle.meaning.specs.Answers.{sort_number}
-use Rattle.table.specs.Table.{number_word, truth_word, eq_word, and_word, neg_word, cond_word, first_function, symbol_word, term_ends, row_ends, mask, result_unit, sorts_unit, masks}
-use Rattle.symbols.specs.Symbols.{AllSpelt}
+use Rattle.word.specs.declared.Operation as word
+use Rattle.word.specs.declared.Operation.TheVariants.{Plus, Minus, Times, Divided, LeftOver, Same, Below, And, Or}
+use Rattle.table.specs.Symbols.{sort_in, sort_word, mask, sorts_in, sort_at, symbol_in}
+use Rattle.table.specs.Table.{term_ends, row_ends}
+use Rattle.table.specs.declared.Sort.{Sort}
+use Rattle.table.specs.declared.Sort.TheVariants.{Number, YesNo}
+use Rattle.table.specs.declared.Sorts.{Sorts}
+use Rattle.table.specs.declared.Signature.{Signature}
+use Rattle.table.specs.declared.Symbol.{Symbol}
+use Rattle.table.specs.declared.Symbol.TheVariants.{Unknown, Argument, Constant, Operation, Not, Cond, Function}
 use Rattle.lines.specs.Lines.{line_signature}
 use Rattle.lines.specs.Splice.{splice}
-use Rattle.terms.specs.declared.Takes.{Takes}
-use Rattle.terms.specs.declared.Takes.TheVariants.{Args, Cannot}
-use Rattle.terms.specs.declared.Reached.{Reached}
-use Rattle.terms.specs.declared.Reached.TheVariants.{Next, Fault}
-use Rattle.meaning.specs.declared.Wrong.TheVariants.{UnknownSymbol, LackingArgument, OtherSort}
+use Rattle.terms.specs.declared.Fault.{Fault}
+use Rattle.meaning.specs.declared.Wrong.{Wrong}
+use Rattle.meaning.specs.declared.Wrong.TheVariants.{UnknownSymbol, LackingArgument, OtherSort, EarlyEnd, TooDeep}
 
--- What the definition says that a symbol takes, in the code's case.
-unfoldable pub shown_takes : means.Takes → Takes
-shown_takes (means.takes S r) = Args (length S) (mask S)
-shown_takes (means.cannot w) = Cannot w
+-- So many arguments, of these sorts.
+abbrev pub row : ℕ → ℕ → Sorts
+row n m = record { count = n; mask = m }
 
--- What a symbol takes by its word, in a function that has the signature `own`, where the sort s is expected; the functions have the signatures H.
-unfoldable pub signed_by : ℕ → ℕ → Takes
-signed_by s h = if eqb (h / result_unit % 2) s then Args (h % result_unit) (h / sorts_unit % masks) else Cannot OtherSort
+abbrev pub fault_at : Wrong → ℕ → Fault
+fault_at w p = record { wrong = w; at = p }
 
-unfoldable pub argument_by : ℕ → ℕ → ℕ → Takes
-argument_by own s i =
-    if ltb i (own % result_unit)
-    then (if eqb (own / sorts_unit % masks / 2 ^ i % 2) s then Args 0 0 else Cannot OtherSort)
-    else Cannot LackingArgument
+-- What the definition says that a symbol takes, in the code's types.
+unfoldable pub shown_takes : means.Takes → Result Sorts Wrong
+shown_takes (means.takes S r) = Ok (sorts_in S)
+shown_takes (means.cannot w) = Err w
 
-unfoldable pub function_by : List ℕ → ℕ → ℕ → Takes
-function_by H s f = if ltb f (length H) then signed_by s (get_or H f 0) else Cannot UnknownSymbol
+-- What an operation of two values takes and gives.
+unfoldable pub operands : word.Operation → Sorts
+operands Plus = row 2 0
+operands Minus = row 2 0
+operands Times = row 2 0
+operands Divided = row 2 0
+operands LeftOver = row 2 0
+operands Same = row 2 0
+operands Below = row 2 0
+operands And = row 2 3
+operands Or = row 2 3
 
--- The signature of a symbol below `cond`.
-unfoldable pub operation_by : ℕ → ℕ
-operation_by w =
-    if ltb w truth_word
-    then 0
-    else if eqb w truth_word
-    then result_unit
-    else if ltb w eq_word
-    then 2
-    else if ltb w and_word
-    then result_unit + 2
-    else if ltb w neg_word
-    then 3 * sorts_unit + result_unit + 2
-    else sorts_unit + result_unit + 1
+unfoldable pub gives : word.Operation → Sort
+gives Plus = Number
+gives Minus = Number
+gives Times = Number
+gives Divided = Number
+gives LeftOver = Number
+gives Same = YesNo
+gives Below = YesNo
+gives And = YesNo
+gives Or = YesNo
 
-unfoldable pub takes_by : List ℕ → ℕ → ℕ → ℕ → Takes
-takes_by H own s w =
-    if eqb w 0
-    then Cannot UnknownSymbol
-    else if ltb w number_word
-    then argument_by own s (w - 1)
-    else if eqb w cond_word
-    then Args 3 (1 + 6 * s)
-    else if ltb w first_function
-    then signed_by s (operation_by w)
-    else function_by H s (w - first_function)
+-- What a symbol takes, if what it gives is what is expected: first the expected sort, then the given one.
+unfoldable pub if_given : Sort → Sort → Sorts → Result Sorts Wrong
+if_given Number Number S = Ok S
+if_given Number YesNo S = Err OtherSort
+if_given YesNo Number S = Err OtherSort
+if_given YesNo YesNo S = Ok S
+
+-- An argument takes nothing and has its own sort; a call takes what its function says.
+unfoldable pub argument_by : Sort → Option Sort → Result Sorts Wrong
+argument_by s None = Err LackingArgument
+argument_by s (Some r) = if_given s r (row 0 0)
+
+unfoldable pub function_by : Sort → Option Signature → Result Sorts Wrong
+function_by s None = Err UnknownSymbol
+function_by s (Some h) = if_given s h.result h.sorts
+
+-- What a symbol takes where the sort s is expected, in a function that has the signature `own`; the functions have the signatures H.
+unfoldable pub takes_by : List Signature → Signature → Sort → Symbol → Result Sorts Wrong
+takes_by H own s Unknown = Err UnknownSymbol
+takes_by H own s (Argument i) = argument_by s (sort_at own.sorts i)
+takes_by H own s (Constant r v) = if_given s r (row 0 0)
+takes_by H own s (Operation o) = if_given s (gives o) (operands o)
+takes_by H own s Not = if_given s YesNo (row 1 1)
+takes_by H own s Cond = Ok (row 3 (1 + 6 * sort_word s))
+takes_by H own s (Function f) = function_by s (slice_get H f)
+
+-- What the symbol at `at` of the symbols W takes, where symbols may stand d deep.
+unfoldable pub placed : ℕ → Result Sorts Wrong → Result Sorts Fault
+placed p (Ok S) = Ok S
+placed p (Err w) = Err (fault_at w p)
+
+unfoldable pub args_by : List Symbol → List Signature → Signature → ℕ → ℕ → Sort → Result Sorts Fault
+args_by W H own at d s =
+    if leb (length W) at
+    then Err (fault_at EarlyEnd (length W))
+    else if eqb d 0
+    then Err (fault_at TooDeep at)
+    else placed at (takes_by H own s (get_or W at Unknown))
 
 -- The functions that the signatures H stand for, and the sorts of the arguments of one that has the signature `own`.
-unfoldable pub Few : List Line → Type 0
-Few [] = Unit {0}
-Few (h ∷ hs) = (length h.sorts ≤ most_arguments) × Few hs
-
-pub record World (H : List ℕ) (own : ℕ) : Type 0 where
+pub record World (H : List Signature) (own : Signature) : Type 0 where
   pub functions : List Line
-  pub arguments : List Sort
+  pub arguments : List arithmetic.Sort
   pub heads : H ≡ map line_signature functions
-  pub few_each : Few functions
   pub few : length arguments ≤ most_arguments
-  pub count : own % result_unit ≡ length arguments
-  pub sorts : own / sorts_unit % masks ≡ mask arguments
+  pub sorts : own.sorts ≡ sorts_in arguments
 
--- The symbols whose words stand from `at` on.
-pub record Symbols (W : List ℕ) (at : ℕ) (ys : List Symbol) : Type 0 where
-  pub here : drop at W ≡ map symbol_word ys
-  pub spelt : AllSpelt ys
+-- The symbols that stand from `at` on.
+abbrev pub Symbols : List Symbol → ℕ → List means.Symbol → Type 0
+Symbols W at ys = drop at W ≡ map symbol_in ys
 
--- What reading a term at `at` of the words W answers, and leaves in the table of ends.
-unfoldable pub Said : List ℕ → ℕ → List ℕ → List ℕ → Read Term → Reached → Type 0
-Said W at e e' (got t ys) r = (r ≡ Next (at + size t)) × (e' ≡ splice e at (term_ends t at))
-Said W at e e' (fault w ys) r = r ≡ Fault w (length W - length ys)
+-- What reading a term at `at` of the symbols W answers, and leaves in the table of ends.
+unfoldable pub Said : List Symbol → ℕ → List ℕ → List ℕ → Read Term → Result ℕ Fault → Type 0
+Said W at e e' (got t ys) r = (r ≡ Ok (at + size t)) × (e' ≡ splice e at (term_ends t at))
+Said W at e e' (fault w ys) r = r ≡ Err (fault_at w (length W - length ys))
 
-unfoldable pub Saids : List ℕ → ℕ → List ℕ → List ℕ → Read Terms → Reached → Type 0
-Saids W at e e' (got ts ys) r = (r ≡ Next (at + sizes ts)) × (e' ≡ splice e at (row_ends ts at))
-Saids W at e e' (fault w ys) r = r ≡ Fault w (length W - length ys)
+unfoldable pub Saids : List Symbol → ℕ → List ℕ → List ℕ → Read Terms → Result ℕ Fault → Type 0
+Saids W at e e' (got ts ys) r = (r ≡ Ok (at + sizes ts)) × (e' ≡ splice e at (row_ends ts at))
+Saids W at e e' (fault w ys) r = r ≡ Err (fault_at w (length W - length ys))
 
-pub record Told (W H : List ℕ) (own at d s : ℕ) (e e' : List ℕ) (r : Reached) : Type 0 where
-  pub told : (w : World H own) (σ : Sort) (ys : List Symbol) → s ≡ sort_number σ → Symbols W at ys → Said W at e e' (read_term w.functions w.arguments d σ ys) r
+pub record Told (W : List Symbol) (H : List Signature) (own : Signature) (at d : ℕ) (s : Sort) (e e' : List ℕ) (r : Result ℕ Fault) : Type 0 where
+  pub told : (w : World H own) (σ : arithmetic.Sort) (ys : List means.Symbol) → s ≡ sort_in σ → Symbols W at ys → Said W at e e' (read_term w.functions w.arguments d σ ys) r
 
-pub record Tolds (W H : List ℕ) (own at d n m : ℕ) (e e' : List ℕ) (r : Reached) : Type 0 where
-  pub tolds : (w : World H own) (S : List Sort) (ys : List Symbol) → n ≡ length S → m ≡ mask S → Symbols W at ys → Saids W at e e' (read_row (read_term w.functions w.arguments d) S ys) r
+pub record Tolds (W : List Symbol) (H : List Signature) (own : Signature) (at d n m : ℕ) (e e' : List ℕ) (r : Result ℕ Fault) : Type 0 where
+  pub tolds : (w : World H own) (S : List arithmetic.Sort) (ys : List means.Symbol) → n ≡ length S → m ≡ mask S → Symbols W at ys → Saids W at e e' (read_row (read_term w.functions w.arguments d) S ys) r
 
-pub record Whole (W H : List ℕ) (own at : ℕ) (e e' : List ℕ) (r : Reached) : Type 0 where
-  pub whole : (w : World H own) (σ : Sort) (ys : List Symbol) → own / result_unit % 2 ≡ sort_number σ → Symbols W at ys → Said W at e e' (nothing_after (read_term w.functions w.arguments most_depth σ ys)) r
+pub record Whole (W : List Symbol) (H : List Signature) (own : Signature) (at : ℕ) (e e' : List ℕ) (r : Result ℕ Fault) : Type 0 where
+  pub whole : (w : World H own) (σ : arithmetic.Sort) (ys : List means.Symbol) → own.result ≡ sort_in σ → Symbols W at ys → Said W at e e' (nothing_after (read_term w.functions w.arguments most_depth σ ys)) r
 
 -- A place that was reached lies within n; one after what was read from `at` on.
-unfoldable pub Within : ℕ → ℕ → Reached → Type 0
-Within n at (Next p) = (p ≤ n) × (at ≤ p)
-Within n at (Fault w p) = p ≤ n
+abbrev pub Within : ℕ → ℕ → Result ℕ Fault → Type 0
+Within n at (Ok p) = (p ≤ n) × (at ≤ p)
+Within n at (Err f) = f.at ≤ n

@@ -1,7 +1,6 @@
 -- The examples of the arithmetic page (src/lib.rt), in its order, computed: operation by number, two values, result. Assumes nothing.
-use Rattle.std.specs.Prelude.{◌≡◌, refl, [], ◌∷◌}
+use Rattle.std.specs.Prelude.{◌≡◌, refl, [], ◌∷◌, Some, None}
 use Rattle.meaning.specs.Arithmetic.{sum, difference, product, quotient, remainder, equal, less, both, either, opposite}
-use Rattle.word.specs.declared.Worked.TheVariants.{Value, ByZero}
 use Rattle.word.specs.Operated.{divides, operated}
 
 pub examples :
@@ -17,8 +16,8 @@ pub examples :
     operated 7 3 4294967290 ∷
     operated 8 1 0 ∷
     operated 9 1 0 ∷
-    Value (opposite 1) ∷
+    Some (opposite 1) ∷
     [] ≡
-    Value 0 ∷ Value 9 ∷ Value 65536 ∷ Value 2147483647 ∷ ByZero ∷ Value 5 ∷ ByZero ∷ Value 1 ∷ Value 0 ∷ Value 1 ∷ Value 0 ∷ Value 1 ∷ Value 0 ∷ []
+    Some 0 ∷ Some 9 ∷ Some 65536 ∷ Some 2147483647 ∷ None ∷ Some 5 ∷ None ∷ Some 1 ∷ Some 0 ∷ Some 1 ∷ Some 0 ∷ Some 1 ∷ Some 0 ∷ []
 unfolding operated divides sum difference product quotient remainder equal less both either opposite
 examples = refl

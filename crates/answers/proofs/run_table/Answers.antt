@@ -1,33 +1,29 @@
 -- `answers::run_table` meets its contract. Assumes nothing.
-use Prim.Native.Nat.{◌*◌}
-use native.Mathlib.Omega.{arith}
-use mathlib.Core.Path.{sym}
-use lib.Seq.{length-take-le}
-use Rattle.meaning.specs.Numbers.{no}
-use borrow.Author.Rules.{rules}
+use Rattle.std.proofs.Common.{◌≡◌, Err, sym, rules}
 use Rattle.answers.proofs.Laws as laws
+use Rattle.answers.proofs.run_table.Goals.{then-args-gt-MOST_ARGUMENTS-via-then-args-gt-MOST_ARGUMENTS, then-args-gt-MOST_ARGUMENTS-via-else-args-gt-MOST_ARGUMENTS+then-not-arguments_fit, then-code-accepted-via-then-code-accepted, then-code-accepted-via-else-code-accepted+then-work-lt-WORK_WORDS}
 use Rattle.answers.proofs.run_table.Goals as goal
 
-pub returns-then-c-gt-HALT : goal.returns-then-c-gt-HALT
-returns-then-c-gt-HALT c = λ text bodies I. laws.told_run_refused text c.args.words.now c.args.values.now c.args.ends.now c.args.heads.now bodies c.args.c I c.args.args.now c.args.limit c.args.code.now c.args.work.now _ (λ e. omega (arith, c.if-c-gt-HALT.true, e)) c.refused.ensures
+pub returns-in_err-accepted : goal.returns-in_err-accepted
+returns-in_err-accepted c = λ text bodies I.
+    let same : c.from_residual.result ≡ Err c.in_err-accepted.field-0.0 = search rules in
+    rw same (laws.run_refused text _ _ _ bodies _ I _ c.in_err-accepted.was _ _ _ _)
 
-pub returns-then-code-n : goal.returns-then-code-n
-unfolding no
-returns-then-code-n c = λ text bodies I. laws.told_run_code text c.args.words.now c.args.values.now c.args.ends.now c.args.heads.now bodies c.args.c I c.args.args.now c.args.limit c.args.code.now c.args.work.now _ (omega (arith, c.if-c-gt-HALT.false)) _ c.arguments_fit.ensures c.if-arguments_fit.true c.if-code-n.true c.refused-then-code-n.ensures
-
-pub returns-then-work-lt-WORK_WORDS : goal.returns-then-work-lt-WORK_WORDS
-unfolding no
-returns-then-work-lt-WORK_WORDS c = λ text bodies I. laws.told_run_work text c.args.words.now c.args.values.now c.args.ends.now c.args.heads.now bodies c.args.c I c.args.args.now c.args.limit c.args.code.now c.args.work.now _ (omega (arith, c.if-c-gt-HALT.false)) _ c.arguments_fit.ensures c.if-arguments_fit.true c.if-code-n.false c.if-work-lt-WORK_WORDS.true c.refused-then-work-lt-WORK_WORDS.ensures
+pub returns-in_default : goal.returns-in_default
+returns-in_default c = λ text bodies I. laws.run_without_entry text _ _ _ bodies _ I _ c.in_ok-accepted.was _ _ _ _ (search rules)
 
 pub returns-then-args-gt-MOST_ARGUMENTS : goal.returns-then-args-gt-MOST_ARGUMENTS
-returns-then-args-gt-MOST_ARGUMENTS c = λ text bodies I. absurd (laws.never_many text c.args.words.now c.args.values.now c.args.ends.now c.args.heads.now bodies c.args.c I c.args.args.now c.args.limit c.args.code.now c.args.work.now c.refused-then-args-gt-MOST_ARGUMENTS.result (omega (arith, c.if-c-gt-HALT.false)) _ c.arguments_fit.ensures c.if-arguments_fit.true c.if-code-n.false c.if-args-gt-MOST_ARGUMENTS.true)
+returns-then-args-gt-MOST_ARGUMENTS c = λ text bodies I. elim c.then-args-gt-MOST_ARGUMENTS.branch [
+  | then-args-gt-MOST_ARGUMENTS-via-then-args-gt-MOST_ARGUMENTS w ↦ laws.run_many text _ _ _ bodies _ I _ c.in_ok-accepted.was _ _ _ _ w.if-args-gt-MOST_ARGUMENTS.true
+  | then-args-gt-MOST_ARGUMENTS-via-else-args-gt-MOST_ARGUMENTS+then-not-arguments_fit w ↦ laws.run_arguments text _ _ _ bodies _ I _ c.in_ok-accepted.was _ _ _ _ _ (sym c.in-Some.ensures.value) _ w.arguments_fit.ensures w.if-not-arguments_fit.true
+]
 
-pub slice_bounds-execute-end-then-arguments_fit : goal.slice_bounds-execute-end-then-arguments_fit
-slice_bounds-execute-end-then-arguments_fit c = sym (length-take-le (12 * c.args.c.instructions) c.emit.new.code (search rules))
-
-pub returns-then-arguments_fit : goal.returns-then-arguments_fit
-returns-then-arguments_fit c = λ text bodies I. laws.told_run_done text c.args.words.now c.args.values.now c.args.ends.now c.args.heads.now bodies c.args.c I c.args.args.now c.args.limit c.args.code.now c.args.work.now _ (omega (arith, c.if-c-gt-HALT.false)) _ c.arguments_fit.ensures c.if-arguments_fit.true c.if-code-n.false _ _ c.if-work-lt-WORK_WORDS.false c.emit.ensures c.execute.ensures.0 c.execute.ensures.1
+pub returns-then-code-accepted : goal.returns-then-code-accepted
+returns-then-code-accepted c = λ text bodies I. elim c.then-code-accepted.branch [
+  | then-code-accepted-via-then-code-accepted w ↦ laws.run_code_room text _ _ _ bodies _ I _ c.in_ok-accepted.was _ _ _ _ _ (sym c.in-Some.ensures.value) _ c.arguments_fit.ensures c.if-not-arguments_fit.false w.if-code-accepted.true
+  | then-code-accepted-via-else-code-accepted+then-work-lt-WORK_WORDS w ↦ laws.run_work_room text _ _ _ bodies _ I _ c.in_ok-accepted.was _ _ _ _ _ (sym c.in-Some.ensures.value) _ c.arguments_fit.ensures c.if-not-arguments_fit.false w.if-code-accepted.false w.if-work-lt-WORK_WORDS.true
+]
 
 pub returns : goal.returns
-unfolding no
-returns c = λ text bodies I. laws.told_run_arguments text c.args.words.now c.args.values.now c.args.ends.now c.args.heads.now bodies c.args.c I c.args.args.now c.args.limit c.args.code.now c.args.work.now _ (omega (arith, c.if-c-gt-HALT.false)) _ c.arguments_fit.ensures c.if-arguments_fit.false c.refused-2.ensures
+returns c = λ text bodies I.
+    laws.run_done text _ _ _ bodies _ I _ c.in_ok-accepted.was _ _ _ _ _ (sym c.in-Some.ensures.value) _ c.arguments_fit.ensures c.if-not-arguments_fit.false c.if-code-accepted.false _ _ _ c.if-work-lt-WORK_WORDS.false c.emit.ensures c.execute.ensures.0 c.execute.ensures.1

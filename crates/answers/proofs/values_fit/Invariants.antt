@@ -1,12 +1,7 @@
--- What holds at each turn of the loop of `answers::values_fit`, and its measure. Assumes nothing.
+-- What holds at each turn of the loop of `answers::values_fit`. Assumes nothing.
+use Rattle.std.proofs.Common.{◌≡◌, drop}
 use Rattle.answers.specs.Fitting.{masked}
-use mathlib.Core.Path.{◌≡◌}
-use Prim.Native.Nat.{◌-◌}
-use lib.ListN.{length, drop}
 use Rattle.answers.proofs.values_fit.Given as goal
 
-abbrev pub invariant-loop-i : goal.invariant-loop-i
-invariant-loop-i l = masked l.m (drop l.i l.args) ≡ masked l.sorts l.args
-
-abbrev pub decreases-loop-i : goal.decreases-loop-i
-decreases-loop-i l = length l.args - l.i
+abbrev pub invariant-loop-v : goal.invariant-loop-v
+invariant-loop-v l = masked l.mask (drop l.v-index l.args) ≡ masked l.fn.mask l.args

@@ -1,14 +1,17 @@
--- What holds at each turn of the loop of `bodies::fill`, and its measure. Assumes nothing.
+-- What holds at each turn of the loop of `bodies::fill`: the fields that are left. Assumes nothing.
 use mathlib.Core.Path.{◌≡◌}
-use Prim.Native.Nat.{◌+◌, ◌-◌}
-use lib.ListN.{length, drop}
+use Prim.Native.Nat.{◌+◌}
+use lib.ListN.{length}
 use Rattle.fields.specs.Fields.{rest}
 use Rattle.lines.specs.Splice.{splice}
-use Rattle.bodies.specs.Bodies.{words_by, values_by}
+use Rattle.bodies.specs.Bodies.{symbols_by}
 use Rattle.bodies.proofs.fill.Given as goal
 
-abbrev pub invariant-loop-i : goal.invariant-loop-i
-invariant-loop-i l = (l.j + length (rest 9 (drop l.i l.line)) ≡ l.from + length (rest 9 (drop l.at l.line))) × (length l.words ≡ length l.initial.words) × (length l.values ≡ length l.initial.values) × (splice l.words l.j (words_by l.names (rest 9 (drop l.i l.line))) ≡ splice l.initial.words l.from (words_by l.names (rest 9 (drop l.at l.line)))) × (splice l.values l.j (values_by l.names (rest 9 (drop l.i l.line))) ≡ splice l.initial.values l.from (values_by l.names (rest 9 (drop l.at l.line))))
-
-abbrev pub decreases-loop-i : goal.decreases-loop-i
-decreases-loop-i l = length l.line - l.i
+abbrev pub invariant-loop-field : goal.invariant-loop-field
+invariant-loop-field l =
+    let left = rest 9 l.field-iterator.rest.now in
+    let all = rest 9 l.body in
+    record {
+      place : l.to + length left ≡ l.from + length all;
+      symbols : splice l.symbols l.to (symbols_by l.names left) ≡ splice l.initial.symbols l.from (symbols_by l.names all);
+    }

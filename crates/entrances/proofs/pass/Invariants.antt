@@ -1,10 +1,7 @@
--- What holds at each turn of the loop of `entrances::pass`, and its measure. Assumes nothing.
+-- What holds at each turn of the loop of `entrances::pass`. Assumes nothing.
+use Rattle.std.proofs.Common.{ℕ, ◌-◌}
 use Rattle.entrances.specs.Entrances.{Passed}
-use Prim.Native.Nat.{ℕ}
 use Rattle.entrances.proofs.pass.Given as goal
 
-abbrev pub invariant-loop-left : goal.invariant-loop-left
-invariant-loop-left l = (r : ℕ) → Passed l.ends l.a l.left r → Passed l.ends l.at l.count r
-
-abbrev pub decreases-loop-left : goal.decreases-loop-left
-decreases-loop-left l = l.left
+abbrev pub invariant-loop : goal.invariant-loop
+invariant-loop l = (r : ℕ) → Passed l.table.ends.now l.at (l.count - l.counter) r → Passed l.table.ends.now l.fn.at l.count r

@@ -1,21 +1,15 @@
 -- `fields::visible` meets its contract. Assumes nothing.
+use Rattle.std.proofs.Common.{rules, arith, ◌∙◌, tests}
+use Rattle.std.proofs.lemmas.Bool.Decides.{nat_tests}
+use Rattle.std.proofs.lemmas.Iterator.{YieldsList-from_slice}
+use Rattle.std.proofs.lemmas.Iterator.Search.{all_from_yields_List}
 use Rattle.meaning.specs.Basics.{between}
-use Rattle.fields.proofs.Laws as laws
-use native.Mathlib.Omega.{arith}
-use mathlib.Core.Path.{◌∙◌}
+use Rattle.meaning.specs.Text.{is_visible}
+use Rattle.fields.proofs.Laws.{all_is}
 use Rattle.fields.proofs.visible.Goals as goal
 
-pub returns-then-f-eq0 : goal.returns-then-f-eq0
-returns-then-f-eq0 c = laws.none_visible _ c.if-f-eq0.true
-
-pub loop-i-init : goal.loop-i-init
-loop-i-init c = laws.some_visible _ c.if-f-eq0.false
-
-pub loop-i-preserved : goal.loop-i-preserved
-loop-i-preserved c = laws.all_on (between 33 126) c.args.f.now c.loop-i.i _ (omega arith) c.visible_byte.ensures c.if-visible_byte.true ∙ c.loop-i.invariant
-
-pub returns-else-visible_byte : goal.returns-else-visible_byte
-returns-else-visible_byte c = laws.all_not (between 33 126) c.args.f.now c.loop-i.i _ (omega arith) c.visible_byte.ensures c.if-visible_byte.false ∙ c.loop-i.invariant
-
-pub returns : goal.returns
-returns c = laws.all_end (between 33 126) c.args.f.now c.loop-i.i (omega arith) ∙ c.loop-i.invariant
+pub returns-then-not-is_empty : goal.returns-then-not-is_empty
+unfolding is_visible
+returns-then-not-is_empty c =
+    let e = all_from_yields_List (between 33 126) _ _ _ c.all.ensures.ran (YieldsList-from_slice c.args.f.now cc) (λ x b q k. search (rules, tests)) ∙ all_is (between 33 126) c.args.f.now in
+    grind (arith, nat_tests)

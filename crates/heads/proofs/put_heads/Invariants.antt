@@ -1,9 +1,9 @@
--- What holds at each turn of the loop of `heads::put_heads`, and its measure. Assumes nothing.
-use Rattle.std.proofs.Common.{◌≡◌, ◌-◌, ◌≤◌, ◌++◌, take, drop}
+-- What holds at each turn of the loop of `heads::put_heads`. Assumes nothing.
+use Rattle.std.proofs.Common.{◌≡◌, ◌++◌, length, take, drop}
+use Rattle.heads.specs.Heads.{heads_list}
 use Rattle.heads.proofs.put_heads.Given as goal
 
 abbrev pub invariant-loop-i : goal.invariant-loop-i
-invariant-loop-i l = (l.i ≤ l.n) × (l.heads ≡ take l.i l.all.list ++ drop l.i l.initial.heads)
-
-abbrev pub decreases-loop-i : goal.decreases-loop-i
-decreases-loop-i l = l.n - l.i
+invariant-loop-i l =
+    let i = length l.yielded in
+    l.heads ≡ heads_list (take i l.signatures) (take i l.bodies) ++ drop i l.initial.heads

@@ -1,14 +1,20 @@
 -- What holds at each turn of the loop of `lines::judge_body`, and its measure. Assumes nothing.
 use mathlib.Core.Path.{◌≡◌}
 use mathlib.Core.List.{[]}
+use Rattle.meaning.specs.Text.{first_wrong}
 use Rattle.fields.specs.Fields.{rest}
-use Rattle.lines.specs.Lines.{judged_from}
-use Prim.Native.Nat.{◌+◌, ◌-◌, ◌≤◌}
+use Rattle.lines.specs.Lines.{outcome}
+use Prim.Native.Nat.{◌+◌, ◌-◌}
 use lib.ListN.{length, drop}
 use Rattle.lines.proofs.judge_body.Given as goal
 
-abbrev pub invariant-loop-i : goal.invariant-loop-i
-invariant-loop-i l = (l.n ≤ l.k + (l.i - l.at)) × (l.n ≤ l.k + length l.line) × (l.at ≤ l.i) × (judged_from l.n [] (rest 9 (drop l.i l.line)) ≡ judged_from l.k [] (rest 9 (drop l.at l.line)))
+abbrev pub invariant-loop-tab : goal.invariant-loop-tab
+invariant-loop-tab l =
+    let left = rest 9 (drop l.tab l.body) in
+    record {
+      counted : l.symbols + length left ≡ length (rest 9 l.body);
+      judged : outcome (first_wrong (5 + l.symbols) [] left) (length (rest 9 l.body)) ≡ outcome (first_wrong 5 [] (rest 9 l.body)) (length (rest 9 l.body));
+    }
 
-abbrev pub decreases-loop-i : goal.decreases-loop-i
-decreases-loop-i l = length l.line - l.i
+abbrev pub decreases-loop-tab : goal.decreases-loop-tab
+decreases-loop-tab l = length l.body - l.tab

@@ -1,58 +1,45 @@
 -- `lines::scan` meets its contract. Assumes nothing.
 use native.Mathlib.Omega.{arith}
+use mathlib.Core.Path.{◌≡◌, sym, ◌∙◌}
+use Rattle.std.proofs.Common.{rules}
+use Rattle.std.proofs.lemmas.Result.{err_from_is_err_and}
+use borrow.Author.Tests.{eqb-true, eqb-false}
+use Prim.Native.Nat.{◌+◌}
+use Rattle.lines.specs.Lines.{misfit}
 use Rattle.lines.proofs.Laws as laws
 use Rattle.lines.proofs.scan.Goals as goal
 
-pub returns-then-text-eq0 : goal.returns-then-text-eq0
-returns-then-text-eq0 c = laws.scan_refused _ _ _ _ _ 1 1 _ c.misshapen.ensures (laws.shape_none _ c.if-text-eq0.true)
+pub returns-then-is_empty : goal.returns-then-is_empty
+returns-then-is_empty c = rw c.misshapen.ensures (laws.scan_empty _ _ _ (eqb-true _ _ (sym c.is_empty.ensures ∙ c.if-is_empty.true)))
 
-pub loop-at-init : goal.loop-at-init
-loop-at-init c = laws.scan_begins _ _ _ c.if-text-eq0.false
+pub loop-line-init : goal.loop-line-init
+loop-line-init c = rw c.into_iter-line-iterator.ensures.into_iter_gives (laws.scan_begins _ _ _ (eqb-false _ _ (sym c.is_empty.ensures ∙ c.if-is_empty.false)))
 
-pub misshapen-requires-then-text-e : goal.misshapen-requires-then-text-e
-misshapen-requires-then-text-e c = omega (arith, c.loop-at.invariant.place)
-
-pub shape_of-names-then-text-e : goal.shape_of-names-then-text-e
-shape_of-names-then-text-e c = c.loop-at.invariant.names_length
-
-pub shape_of-heads-then-text-e : goal.shape_of-heads-then-text-e
-shape_of-heads-then-text-e c = c.loop-at.invariant.heads_length
-
-pub returns-then-text-e : goal.returns-then-text-e
-returns-then-text-e c = laws.scan_open c.args.text.now _ _ _ _ _ _ _ c.loop-at.invariant _ c.loop-at-test.true c.piece_end-e.ensures.is _ _ _ c.if-text-e.true c.misshapen-then-text-e.ensures
-
-pub misshapen-requires-then-w-lt-SOUND : goal.misshapen-requires-then-w-lt-SOUND
-misshapen-requires-then-w-lt-SOUND c = omega (arith, c.loop-at.invariant.place)
-
-pub shape_of-names-then-w-lt-SOUND : goal.shape_of-names-then-w-lt-SOUND
-shape_of-names-then-w-lt-SOUND c = c.loop-at.invariant.names_length
-
-pub shape_of-heads-then-w-lt-SOUND : goal.shape_of-heads-then-w-lt-SOUND
-shape_of-heads-then-w-lt-SOUND c = c.loop-at.invariant.heads_length
-
-pub returns-then-w-lt-SOUND : goal.returns-then-w-lt-SOUND
-returns-then-w-lt-SOUND c = laws.scan_wrong c.args.text.now _ _ _ _ _ _ _ c.loop-at.invariant _ c.loop-at-test.true c.piece_end-e.ensures.is _ _ _ _ c.if-text-e.false c.judge_line-w.ensures c.if-w-lt-SOUND.true c.misshapen-then-w-lt-SOUND.ensures
-
-pub note-requires : goal.note-requires
-note-requires c = laws.scan_right c.args.text.now _ _ _ _ _ _ _ c.loop-at.invariant _ c.loop-at-test.true c.piece_end-e.ensures.is _ c.if-text-e.false c.requires c.judge_line-w.ensures c.if-w-lt-SOUND.false
-
-pub overflow_add-n : goal.overflow_add-n
-overflow_add-n c = omega (arith, c.loop-at.invariant.place)
-
-pub overflow_sub-symbols : goal.overflow_sub-symbols
-overflow_sub-symbols c = laws.scan_fields c.args.text.now _ _ _ _ _ _ _ c.loop-at.invariant _ c.loop-at-test.true c.piece_end-e.ensures.is _ c.if-text-e.false c.requires c.judge_line-w.ensures c.if-w-lt-SOUND.false
+pub returns-in_err-symbols : goal.returns-in_err-symbols
+returns-in_err-symbols c =
+    let a = laws.err_before c.judge_line.result c.map_err.result _ (λ field r. r ≡ misfit (c.loop-line.functions + 1) field) _ c.map_err.ensures.cases c.in_err-symbols.was (λ field h. search rules) in
+    let b = err_from_is_err_and c.from_residual.result c.from_residual.ensures.1 in
+    rw (b.1, b.2, a.2) (laws.scan_wrong _ _ _ _ _ _ _ _ c.loop-line.invariant _ _ c.in-Some.ensures.steps _ _ a.1 c.judge_line.ensures)
 
 pub overflow_add-symbols : goal.overflow_add-symbols
-overflow_add-symbols c = omega (arith, laws.scan_room c.args.text.now _ _ _ _ _ _ _ c.loop-at.invariant _ c.loop-at-test.true c.piece_end-e.ensures.is _ c.if-text-e.false c.requires c.judge_line-w.ensures c.if-w-lt-SOUND.false)
+overflow_add-symbols c =
+    let a = laws.ok_before c.judge_line.result c.map_err.result _ _ c.map_err.ensures.cases c.in_ok-symbols.was in
+    omega (arith, laws.scan_room _ _ _ _ _ _ _ _ c.loop-line.invariant _ _ c.in-Some.ensures.steps _ _ a c.judge_line.ensures, c.requires)
 
-pub loop-at-preserved : goal.loop-at-preserved
-loop-at-preserved c = laws.scan_on c.args.text.now _ _ _ _ _ _ _ c.loop-at.invariant _ c.loop-at-test.true c.piece_end-e.ensures.is _ c.if-text-e.false c.requires c.judge_line-w.ensures c.if-w-lt-SOUND.false _ _ c.note.ensures.names c.note.ensures.heads
+pub note-requires : goal.note-requires
+note-requires c =
+    let a = laws.ok_before c.judge_line.result c.map_err.result _ _ c.map_err.ensures.cases c.in_ok-symbols.was in
+    laws.scan_right _ _ _ _ _ _ _ _ c.loop-line.invariant _ _ c.in-Some.ensures.steps _ _ a c.judge_line.ensures
 
-pub shape_of-names : goal.shape_of-names
-shape_of-names c = c.loop-at.invariant.names_length
+pub loop-line-preserved : goal.loop-line-preserved
+loop-line-preserved c =
+    let a = laws.ok_before c.judge_line.result c.map_err.result _ _ c.map_err.ensures.cases c.in_ok-symbols.was in
+    laws.scan_on _ _ _ _ _ _ _ _ c.loop-line.invariant _ _ c.in-Some.ensures.steps _ _ a c.judge_line.ensures _ _ c.note.ensures.names c.note.ensures.heads
 
-pub shape_of-heads : goal.shape_of-heads
-shape_of-heads c = c.loop-at.invariant.heads_length
+pub returns-then-text-ne-LINE_END : goal.returns-then-text-ne-LINE_END
+returns-then-text-ne-LINE_END c =
+    rw c.misshapen-then-text-ne-LINE_END.ensures
+    (laws.scan_open _ _ _ _ _ _ _ _ c.loop-line.invariant c.in-None.ensures.steps.0 (eqb-false _ _ (sym c.is_empty.ensures ∙ c.if-is_empty.false)) c.if-text-ne-LINE_END.true)
 
 pub returns : goal.returns
-returns c = laws.scan_ends c.args.text.now _ _ _ _ _ _ _ c.loop-at.invariant c.loop-at-test.false
+returns c = laws.scan_ends _ _ _ _ _ _ _ _ c.loop-line.invariant c.in-None.ensures.steps.0 (eqb-false _ _ (sym c.is_empty.ensures ∙ c.if-is_empty.false)) c.if-text-ne-LINE_END.false

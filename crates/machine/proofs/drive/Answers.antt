@@ -1,23 +1,19 @@
 -- `machine::drive` meets its contract. Assumes nothing.
+use mathlib.Core.Path.{◌∙◌}
 use native.Mathlib.Omega.{arith}
-use borrow.Author.Rules.{rules}
-use Rattle.machine.proofs.Loop.{ends_over, ends_fuel, keeps_running, turns, falls, begins}
+use Rattle.machine.proofs.Loop.{ends_halt, ends_fuel, stops, turns}
 use Rattle.machine.proofs.drive.Goals as goal
 
-pub loop-s-init : goal.loop-s-init
-loop-s-init c = begins c.args.code.now c.args.work.now c.args.begin c.args.limit c.new-tally.result c.requires c.new-tally.ensures
+pub returns-then-s-eq0 : goal.returns-then-s-eq0
+returns-then-s-eq0 c = (c.answer.ensures ∙ ends_halt _ _ _ _ _ _ c.loop-s.invariant c.if-s-eq0.true, c.loop-s.invariant.kept)
 
-pub returns-then-s-ne-FUEL : goal.returns-then-s-ne-FUEL
-returns-then-s-ne-FUEL c = let l = c.loop-s in (ends_over _ _ _ _ _ l.invariant.stands c.if-s-ne-FUEL.true, omega (arith, l.invariant.left), l.invariant.fewer, l.invariant.kept)
+pub returns-then-from-s : goal.returns-then-from-s
+returns-then-from-s c = (c.answer-then-from-s.ensures ∙ ends_fuel _ _ _ _ _ _ c.loop-s.invariant c.if-s-eq0.false (omega arith), c.loop-s.invariant.kept)
 
-pub returns-then-most-s : goal.returns-then-most-s
-returns-then-most-s c = let l = c.loop-s in (ends_fuel _ _ _ _ _ l.invariant.stands c.if-s-ne-FUEL.false c.if-most-s.true, omega (arith, l.invariant.left), l.invariant.fewer, l.invariant.kept)
-
-pub step-s-requires : goal.step-s-requires
-step-s-requires c = let l = c.loop-s in keeps_running _ _ _ _ _ l.invariant.stands c.if-s-ne-FUEL.false (omega (arith, l.invariant.left)) l.invariant.fewer
-
-pub loop-s-smaller : goal.loop-s-smaller
-loop-s-smaller c = let l = c.loop-s in falls _ _ _ _ _ _ _ _ l.invariant c.if-s-ne-FUEL.false c.if-most-s.false (search rules) c.step-s.ensures
+pub returns-in-Err : goal.returns-in-Err
+returns-in-Err c =
+    let ends = stops _ _ _ _ _ _ c.loop-s.invariant c.if-s-eq0.false (omega arith) _ _ c.step.ensures c.in-Err.number c.in-Err.is in
+    (c.answer-in-Err.ensures ∙ ends.0, ends.1)
 
 pub loop-s-preserved : goal.loop-s-preserved
-loop-s-preserved c = let l = c.loop-s in turns _ _ _ _ _ _ _ _ l.invariant c.if-s-ne-FUEL.false c.if-most-s.false (search rules) c.step-s.ensures
+loop-s-preserved c = (turns _ _ _ _ _ _ c.loop-s.invariant c.if-s-eq0.false (omega arith) _ _ c.step.ensures c.in-Ok.next c.in-Ok.is c.step.auto.work).0

@@ -8,9 +8,9 @@ use Rattle.machine.proofs.Clearing.{same_cleared}
 use Rattle.machine.proofs.execute.Goals as goal
 
 pub returns : goal.returns
-returns c = let b = c.begin.ensures in let code = c.args.code.now in let d = c.drive-s in (
-  c.answer.ensures ∙ d.ensures.0
+returns c = let b = c.begin.ensures in let code = c.args.code.now in let d = c.drive-answer.ensures in (
+  d.0
       ∙ ap (λ (x : State). ran (run (decode code) c.args.limit x 0 0)) (b.holds_start c.first.result)
       ∙ ap (λ (a : ℕ). ran (run (decode code) c.args.limit (start a c.args.args.now) 0 0)) c.first.ensures,
-  c.clear.ensures ∙ same_cleared _ _ (d.ensures.3 ∙ b.kept),
+  c.clear.ensures ∙ same_cleared _ _ (d.1 ∙ b.kept),
 )

@@ -1,10 +1,23 @@
 -- `order::decimals` meets its contract. Assumes nothing.
-use mathlib.Core.Path.{ap, sym, ◌∙◌}
+use Rattle.std.proofs.Common.{◌∙◌, sym, ap, [], Some, None}
+use Rattle.meaning.specs.Text.{tab}
+use Rattle.fields.specs.Fields.{rest}
+use Rattle.reader.proofs.Laws.{rest_all}
+use Rattle.order.specs.Asked.{arguments_from, arguments_read}
 use Rattle.order.proofs.Laws as laws
 use Rattle.order.proofs.decimals.Goals as goal
 
-pub returns-in-Not : goal.returns-in-Not
-returns-in-Not c = laws.line_none c.args.line.now c.piece_end-e.result c.args.text _ c.piece_end-e.ensures.is (sym c.in-Not.is ∙ c.decimal_value.ensures) (ap (λ r. r.formed) c.malformed.ensures)
+pub returns-in_err-limit : goal.returns-in_err-limit
+returns-in_err-limit c =
+    c.from_residual.ensures ∙ laws.line_none c.args.line.now c.piece_end-end.result c.args.text c.piece_end-end.ensures.is (sym c.in_err-limit.was ∙ c.decimal_value.ensures)
 
-pub returns-in-Value : goal.returns-in-Value
-returns-in-Value c = laws.line_some c.args.line.now c.piece_end-e.result c.args.text _ _ c.piece_end-e.ensures.is (sym c.in-Value.is ∙ c.decimal_value.ensures) c.arguments.ensures
+pub returns-in_err-args : goal.returns-in_err-args
+returns-in_err-args c =
+    let read = sym c.in_err-args.was ∙ c.arguments.ensures ∙ ap (λ s. arguments_read (arguments_from [] (rest tab s))) (rest_all c.args.line.now c.piece_end-end.result) in
+    c.from_residual-in_err-args.ensures
+    ∙ laws.line_some c.args.line.now c.piece_end-end.result c.args.text c.in_ok-limit.limit None c.piece_end-end.ensures.is (sym c.in_ok-limit.was ∙ c.decimal_value.ensures) read
+
+pub returns : goal.returns
+returns c =
+    let read = sym c.in_ok-args.was ∙ c.arguments.ensures ∙ ap (λ s. arguments_read (arguments_from [] (rest tab s))) (rest_all c.args.line.now c.piece_end-end.result) in
+    laws.line_some c.args.line.now c.piece_end-end.result c.args.text c.in_ok-limit.limit (Some c.in_ok-args.args) c.piece_end-end.ensures.is (sym c.in_ok-limit.was ∙ c.decimal_value.ensures) read

@@ -1,22 +1,20 @@
--- `symbols::some_bytes` meets its contract. Assumes nothing.
-use borrow.Author.Tests.{eq-eqb, ne_eqb}
-use Rattle.meaning.specs.Arithmetic.{op_constant}
-use Rattle.table.specs.Table.{symbol_word, symbol_value, op_word}
-use Rattle.symbols.specs.Symbols.{known, recognised, some_bytes_symbol}
+-- `symbols::some_bytes` meets its contract: no word of four or five bytes, it is a decimal or a name. Assumes nothing.
+use Rattle.std.proofs.Common.{arith, sym, ◌∙◌}
+use borrow.Author.Tests.{ne_eqb}
+use Rattle.symbols.specs.Symbols.{named_as, some_bytes_symbol}
+use Rattle.symbols.proofs.Laws as laws
 use Rattle.symbols.proofs.some_bytes.Goals as goal
 
-pub returns-then-name-eq-TRUE : goal.returns-then-name-eq-TRUE
-unfolding some_bytes_symbol recognised known symbol_word symbol_value op_word op_constant
-returns-then-name-eq-TRUE c = simp (← c.packed_name-name.ensures, eq-eqb _ _ c.if-name-eq-TRUE.true)
-
-pub returns-then-name-eq-FALSE : goal.returns-then-name-eq-FALSE
-unfolding some_bytes_symbol recognised known symbol_word symbol_value op_word op_constant
-returns-then-name-eq-FALSE c = simp (← c.packed_name-name.ensures, ne_eqb _ _ c.if-name-eq-TRUE.false, eq-eqb _ _ c.if-name-eq-FALSE.true)
-
-pub returns-then-name-eq-COND : goal.returns-then-name-eq-COND
-unfolding some_bytes_symbol recognised known symbol_word symbol_value op_word op_constant
-returns-then-name-eq-COND c = simp (← c.packed_name-name.ensures, ne_eqb _ _ c.if-name-eq-TRUE.false, ne_eqb _ _ c.if-name-eq-FALSE.false, eq-eqb _ _ c.if-name-eq-COND.true)
-
-pub returns : goal.returns
+pub returns-in-Some : goal.returns-in-Some
 unfolding some_bytes_symbol
-returns c = simp (← c.packed_name-name.ensures, ne_eqb _ _ c.if-name-eq-TRUE.false, ne_eqb _ _ c.if-name-eq-FALSE.false, ne_eqb _ _ c.if-name-eq-COND.false) c.decimal_or_function.ensures
+returns-in-Some c =
+    let name = c.packed_name.result in
+    simp (← c.packed_name.ensures, ne_eqb name 1702195828 (λ e. omega (arith, e)), ne_eqb name 435728179558 (λ e. omega (arith, e)), ne_eqb name 1684959075 (λ e. omega (arith, e)))
+    (sym (laws.decimal_some _ _ _ (sym c.decimal_value.ensures ∙ c.in-Some.is)))
+
+pub returns-in-None : goal.returns-in-None
+unfolding some_bytes_symbol
+returns-in-None c =
+    let name = c.packed_name.result in
+    simp (← c.packed_name.ensures, ne_eqb name 1702195828 (λ e. omega (arith, e)), ne_eqb name 435728179558 (λ e. omega (arith, e)), ne_eqb name 1684959075 (λ e. omega (arith, e)), laws.decimal_none c.args.f.now (named_as 0 c.args.names.now name) (sym c.decimal_value.ensures ∙ c.in-None.is))
+    c.function_of.ensures

@@ -1,17 +1,41 @@
 -- `symbols::symbol_of` meets its contract. Assumes nothing.
+use Rattle.std.proofs.Common.{rules, arith, length, get_or, sym, ap, ◌∙◌}
 use borrow.Author.Tests.{lt-ltb, le-ltb, eq-eqb, ne_eqb}
-use Rattle.symbols.specs.Symbols.{symbol_by}
+use Rattle.table.specs.Symbols.{symbol_in}
+use Rattle.meaning.specs.Terms.{unknown}
+use Rattle.fields.specs.Fields.{packed}
+use Rattle.symbols.specs.Symbols.{symbol_by, one_byte_symbol, short_symbol, named_as}
+use Rattle.symbols.proofs.Laws as laws
 use Rattle.symbols.proofs.Names as names
 use Rattle.symbols.proofs.symbol_of.Goals as goal
 
-pub returns-then-f-eq1 : goal.returns-then-f-eq1
-unfolding symbol_by
-returns-then-f-eq1 c = let both = names.meant _ _ _ (simp (eq-eqb _ _ c.if-f-eq1.true) c.one_byte.ensures) in record { by = both.0; is = both.1 }
+pub returns-in-Unknown : goal.returns-in-Unknown
+unfolding symbol_by one_byte_symbol
+returns-in-Unknown c =
+    let both = names.meant _ _ _ (simp (eq-eqb (length c.args.f.now) 1 c.in-1.is, laws.or_other _ (named_as 0 c.args.names.now (packed c.args.f.now)) (sym c.short.ensures ∙ c.in-Unknown.is)) (search rules)) in
+    record { by = both.0; is = both.1 }
 
-pub returns-then-f-gt-NAME_BYTES : goal.returns-then-f-gt-NAME_BYTES
-unfolding symbol_by
-returns-then-f-gt-NAME_BYTES c = let both = names.meant _ _ _ (simp (ne_eqb _ _ c.if-f-eq1.false, lt-ltb _ _ c.if-f-gt-NAME_BYTES.true) c.long_decimal.ensures) in record { by = both.0; is = both.1 }
+pub returns-in_default-short : goal.returns-in_default-short
+unfolding symbol_by one_byte_symbol
+returns-in_default-short c =
+    let known = laws.or_same (short_symbol (get_or c.args.f.now 0 0)) (named_as 0 c.args.names.now (packed c.args.f.now)) (λ e. c.in_default-short.not-Unknown (c.short.ensures ∙ e)) in
+    let both = names.meant _ _ _ (simp (eq-eqb (length c.args.f.now) 1 c.in-1.is, known) c.short.ensures) in
+    record { by = both.0; is = both.1 }
 
-pub returns : goal.returns
+pub returns-in-0-to-8 : goal.returns-in-0-to-8
 unfolding symbol_by
-returns c = let both = names.meant _ _ _ (simp (ne_eqb _ _ c.if-f-eq1.false, le-ltb _ _ c.if-f-gt-NAME_BYTES.false) c.some_bytes.ensures) in record { by = both.0; is = both.1 }
+returns-in-0-to-8 c =
+    let both = names.meant _ _ _ (simp (ne_eqb (length c.args.f.now) 1 (λ e. omega (arith, e)), le-ltb 8 (length c.args.f.now) (omega arith)) c.some_bytes.ensures) in
+    record { by = both.0; is = both.1 }
+
+pub returns-in-Some : goal.returns-in-Some
+unfolding symbol_by
+returns-in-Some c =
+    let both = names.meant _ _ _ (simp (ne_eqb (length c.args.f.now) 1 (λ e. omega (arith, e)), lt-ltb 8 (length c.args.f.now) (omega arith)) (sym (laws.decimal_some _ _ _ (sym c.decimal_value.ensures ∙ c.in-Some.is)))) in
+    record { by = both.0; is = both.1 }
+
+pub returns-in-None : goal.returns-in-None
+unfolding symbol_by symbol_in
+returns-in-None c =
+    let both = names.meant _ _ _ (simp (ne_eqb (length c.args.f.now) 1 (λ e. omega (arith, e)), lt-ltb 8 (length c.args.f.now) (omega arith)) (sym (ap symbol_in (laws.decimal_none c.args.f.now unknown (sym c.decimal_value.ensures ∙ c.in-None.is))))) in
+    record { by = both.0; is = both.1 }
