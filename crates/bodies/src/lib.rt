@@ -17,7 +17,8 @@ use meaning::{Number, Refusal};
 use table::{Signature, Symbol};
 use terms::{Body, Fault};
 
-// The fields of a body, which begins with the tab before the first of them, as symbols, into the table from `from` on; the address after them.
+// The fields of a body, which begins with the tab before the first of them, as symbols, into the table from `from` on; the address after them, which is
+// what the loop counts.
 fn fill(body: &[u8], names: &[u64], from: usize, symbols: &mut [Symbol]) -> usize
     requires few { length names.now ≤ most_functions }
     requires room { from + length (rest tab body.now) ≤ length symbols.old }

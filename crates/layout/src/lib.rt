@@ -31,6 +31,7 @@ pub const COUNT: usize = 3;
 
 pub const ENTRANCES: usize = 4;
 
+// Levels are found by index in the one slice of words that a caller in C lends.
 // Level p is LEVEL_WORDS words from LEVEL_WORDS * p on: where to go on once it returns, the link, the strict count, the frame's size, the frame's slots.
 pub const LEVEL_WORDS: usize = 12;
 

@@ -276,7 +276,7 @@ fn misshapen(n: usize, field: u32) -> Refusal
 }
 
 // "LINE: empty text is line 1 field 1. Otherwise lines in order. A last line without byte 10 gives field 0 before its fields are judged."
-// On the way lines and body symbols are counted, and names and signatures go into the arrays, as far as these reach.
+// On the way lines and body symbols are counted, which are the answer, and names and signatures go into the arrays, as far as these reach.
 pub fn scan(text: &[u8], names: &mut [u64], heads: &mut [Signature]) -> Result<Counted, Refusal>
     requires { length text.now ≤ most_bytes }
     ensures { Scan text.now names.old names.new heads.old heads.new result }

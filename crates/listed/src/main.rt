@@ -21,6 +21,7 @@ fn show_instruction(rt: &impl Print, words: &[u32]) -> io::Result<()> {
 
 fn list(rt: &impl Print, text: &[u8], code: &mut [u32]) -> io::Result<()> {
     let c = nespralha::translate(text, code);
+    // `checked` prints the same five: a line each, and a `Display` of `Checked` would be no shorter.
     println!(rt;
         "{}\t{}\t{}\t{}\t{}",
         c.number, c.line, c.field, c.functions, c.instructions

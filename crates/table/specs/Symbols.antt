@@ -60,3 +60,7 @@ symbol_in (operation o) = op_symbol o
 symbol_in condition = Cond
 symbol_in (function f) = Function f
 symbol_in unknown = Unknown
+
+-- What stands for a function before a text is read.
+abbrev pub no_head : Signature
+no_head = record { sorts = record { count = 0; mask = 0 }; strict = 0; result = Number }

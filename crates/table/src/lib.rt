@@ -2,9 +2,9 @@
 // specs/. Assumes nothing.
 #![tactic(auto)]
 
-ghost use Rattle.std.specs.Prelude.{◌≡◌, ◌%◌, get_or};
+ghost use Rattle.std.specs.Prelude.{◌≡◌, ◌%◌, get_or, replicate};
 ghost use Rattle.table.specs.declared.Symbol.TheVariants.{Unknown};
-ghost use Rattle.table.specs.Symbols.{sort_of_bit, sort_at, sort_word};
+ghost use Rattle.table.specs.Symbols.{sort_of_bit, sort_at, sort_word, no_head};
 
 use word::Operation;
 
@@ -76,7 +76,7 @@ pub enum Symbol {
 }
 
 // Room for F functions and S symbols: of each function its name as one number, its signature and the address of its body; of each symbol what it is, and
-// the address after the term that begins with it.
+// the address after the term that begins with it: an array beside, since reading a term writes addresses alone, and its contract need not say what stays.
 #[derive(Drop)]
 pub struct Table<const F: usize, const S: usize> {
     pub names: [u64; F],
@@ -87,7 +87,12 @@ pub struct Table<const F: usize, const S: usize> {
 }
 
 impl<const F: usize, const S: usize> Table<F, S> {
-    pub fn new() -> Self {
+    // Nothing read yet.
+    pub fn new() -> Self
+        ensures functions { (result.names ≡ replicate F 0) × (result.bodies ≡ replicate F 0) }
+        ensures heads { result.heads ≡ replicate F no_head }
+        ensures symbols { (result.symbols ≡ replicate S Unknown) × (result.ends ≡ replicate S 0) }
+    {
         let none = Signature {
             sorts: Sorts { count: 0, mask: 0 },
             strict: 0,

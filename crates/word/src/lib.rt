@@ -162,7 +162,7 @@ impl Operation {
     }
 }
 
-// The operation of this number, 1 to 9, at two values; 0 for any other number.
+// The operation of this number, 1 to 9, at two values; 0 for any other number. The engine reads an `Operation` first; this says what any number comes to.
 #[tactic(auto, unfolding(crate::specs::Operated::operated))]
 pub fn operate(number: u32, a: u32, b: u32) -> Option<u32>
     ensures { result ≡ operated number a b }
