@@ -1,6 +1,6 @@
 -- What Check, Translate and Run come to and leave in memory, by the tests that the code makes, in its order. Assumes nothing.
 use mathlib.Core.Path.{◌≡◌, refl, ap, sym, ◌∙◌}
-use mathlib.Core.Bool.{Bool, true, false, ◌&&◌}
+use mathlib.Core.Bool.{Bool, true, false, ◌&&◌, false≢true}
 use mathlib.Core.List.{List, [], ◌∷◌, ◌++◌}
 use Prim.Native.Nat.{ℕ, suc, ◌+◌, ◌*◌, ◌/◌, ◌%◌, ◌≤◌, ◌<◌}
 use native.Mathlib.Omega.{arith}
@@ -9,18 +9,19 @@ use native.Mathlib.Decide.{ℕ_discrete}
 use lib.ListN.{length, get_or, take, drop, drop_of_length-le, length-append, length-map}
 use lib.Seq.{drop-cons, length-take-le}
 use borrow.Author.Tests.{eq-eqb, ne_eqb, le-leb, lt-leb}
+use mathlib.Core.Logic.{inl, inr}
 use Rattle.std.specs.Prelude.{IfOk, Result, Ok, Err, Some, None, slice_get}
 use Rattle.std.proofs.Math.Bool.{and-false}
 use Rattle.meaning.specs.Basics.{written_over}
 use Rattle.meaning.specs.Arithmetic.{Sort, number, yes_no}
-use Rattle.meaning.specs.Numbers.{ARGS, ROOM, instruction_words, work_words}
-use Rattle.meaning.specs.Text.{fine, ◌>>=◌, ◌>>◌}
+use Rattle.meaning.specs.Numbers.{no, ARGS, ROOM, most_functions, instruction_words, work_words}
+use Rattle.meaning.specs.Text.{Verdict, fine, refused, ◌>>=◌, ◌>>◌}
 use Rattle.meaning.specs.Terms.{Program}
 use Rattle.meaning.specs.Code.{size, initial, translation, code_words}
 use Rattle.meaning.specs.Machine.{start, run, run_program}
-use Rattle.meaning.specs.Answers.{admit_check, admit_translate, admit_run, judge_room, judge_arguments, with_code, cleared, ran, fits, all_fit, fitting, zero_words, translate_code, with_heads, heads_of, check_heads, run_code, run_work}
+use Rattle.meaning.specs.Answers.{checked, admit_check, admit_translate, admit_run, judge_room, judge_arguments, with_code, cleared, answered, ran, fits, all_fit, fitting, zero_words, translate_answer, translate_code, with_heads, heads_of, check_heads, run_answer, run_code, run_work}
 use Rattle.meaning.specs.Check.{check}
-use Rattle.meaning.specs.Said.{refusal, found, accepted}
+use Rattle.meaning.specs.Said.{refusal, found, accepted, checked_refusal, answered_refusal}
 use Rattle.meaning.specs.declared.Refusal.{Refusal}
 use Rattle.meaning.proofs.Said.{found_fine, found_refused}
 use Rattle.meaning.specs.declared.Accepted.{Accepted}
@@ -35,6 +36,7 @@ use Rattle.accepted.specs.Accepted.{Every}
 use Rattle.accepted.specs.Accepted as programs
 use Rattle.accepted.proofs.Accepted.{accepted as is_accepted}
 use Rattle.accepted.proofs.Length.{words_of_written}
+use Rattle.accepted.proofs.Refused.{Refuses, Proper, check_proper}
 use Rattle.heads.specs.Heads.{heads_list}
 use Rattle.heads.proofs.Laws.{addresses_length, heads_meant, heads_length}
 use Rattle.coding.specs.Coding.{Translated}
@@ -86,13 +88,21 @@ unfolding signatures
 no_entry [] heads ok h e = omega (arith, ok.some_function)
 no_entry (F ∷ P) heads ok h e = let q : slice_get heads 0 ≡ Some (signature F.sorts F.strict F.result) = ap (λ (l : List Signature). slice_get l 0) h.whole in absurd (cc)
 
-entry_fits : (P : Program) (heads : List Signature) (g : Signature) (vs : List ℕ) → programs.Accepted P → Begins heads (signatures P) → slice_get heads 0 ≡ Some g → fits_signature g vs ≡ fitting P vs
+pub entry_fits : (P : Program) (heads : List Signature) (g : Signature) (vs : List ℕ) → programs.Accepted P → Begins heads (signatures P) → slice_get heads 0 ≡ Some g → fits_signature g vs ≡ fitting P vs
 unfolding signatures fitting Every
 entry_fits [] heads g vs ok h e = absurd (omega (arith, ok.some_function))
 entry_fits (F ∷ P) heads g vs ok h e =
     let q : slice_get heads 0 ≡ Some (signature F.sorts F.strict F.result) = ap (λ (l : List Signature). slice_get l 0) h.whole in
     let same : g ≡ signature F.sorts F.strict F.result = cc in
     rw same (signature_fits F.sorts F.strict F.result vs)
+
+pub few_fit : (P : Program) (vs : List ℕ) → programs.Accepted P → fitting P vs ≡ true → length vs ≤ 8
+unfolding fitting Every
+few_fit [] vs ok h = absurd (false≢true h)
+few_fit (F ∷ P) vs ok h = elim (ℕ_discrete (length vs) (length F.sorts)) [
+  | Dec.yes q ↦ omega (arith, ok.sound.0.few_arguments)
+  | Dec.no q ↦ absurd (false≢true (sym (not_as_many F.sorts vs q) ∙ h))
+]
 
 many_fit : (P : Program) (vs : List ℕ) → programs.Accepted P → 8 < length vs → fitting P vs ≡ false
 unfolding fitting Every
@@ -215,6 +225,9 @@ module _ (text : List ℕ) (symbols : List Symbol) (ends : List ℕ) (heads : Li
               let k = lt-leb (instruction_words * length (translation P)) (length code) (omega (arith, instructions)) in
               (rw judged (simp (fit, k)), rw judged (simp (fit, k)), rw judged (simp (fit, k)))
 
+          pub never_many : 8 < length args → ⊥
+          never_many m = omega (arith, few_fit P args ok fit)
+
           module _ (l : a.instructions ≤ length code / 12) where
             pub run_work_room : length work < work_words → RunOutcome text args limit code work (Err (refusal ROOM 0 0)) code work
             unfolding RunOutcome run_code run_work admit_run ◌>>=◌ ◌>>◌ judge_arguments judge_room found with_code cleared
@@ -241,3 +254,49 @@ module _ (text : List ℕ) (symbols : List Symbol) (ends : List ℕ) (heads : Li
   pub counts_within : (r : Result Accepted Refusal) → IsRead text r symbols ends heads bodies → IfOk r (λ a. (a.functions ≤ length heads) × (a.functions ≤ length bodies))
   counts_within (Ok a) I = heads_within text symbols ends heads bodies (Ok a) I a refl
   counts_within (Err e) I = tt
+
+-- An answer 0 is an accepted text.
+of_verdict : (x : Verdict Program) → Proper x → (checked x).number ≡ 0 → (P : Program) × (x ≡ fine P)
+unfolding checked Proper Refuses
+of_verdict (fine P) h e = (P, refl)
+of_verdict (refused n l f) (inl h) e = absurd (omega arith)
+of_verdict (refused n l f) (inr h) e = absurd (omega arith)
+
+pub accepted_text : (text : List ℕ) → (checked (check text)).number ≡ 0 → (P : Program) × (check text ≡ fine P)
+accepted_text text e = of_verdict (check text) (check_proper text) e
+
+-- An answer tells of no more functions than a text can have.
+fewer : (x : Verdict Program) → ((P : Program) → x ≡ fine P → length P ≤ most_functions) → (checked x).functions ≤ most_functions
+unfolding checked
+fewer (fine P) h = h P refl
+fewer (refused n l f) h = omega arith
+
+pub few_functions : (text : List ℕ) → (checked (check text)).functions ≤ most_functions
+few_functions text = fewer (check text) (λ P e. (is_accepted text P e).few_functions)
+
+-- By the definitions alone: a text is accepted, and the lent memory is too short.
+module _ (text : List ℕ) (P : Program) (e : check text ≡ fine P) (code : List ℕ) where
+  -- Translate.
+  pub translate_short : length code / 12 < length (translation P) → (checked_refusal (refusal ROOM 0 0) ≡ translate_answer text (length code)) × (code ≡ translate_code text code)
+  unfolding translate_answer translate_code admit_translate ◌>>=◌ ◌>>◌ judge_room checked with_code no
+  translate_short h =
+      let k = lt-leb (instruction_words * length (translation P)) (length code) (omega arith) in
+      (rw e (simp k), rw e (simp k))
+
+  -- Run.
+  module _ (args : List ℕ) (limit : ℕ) (work : List ℕ) (a : fitting P args ≡ true) where
+    abbrev NoRoom : Type 0
+    NoRoom = (answered_refusal (refusal ROOM 0 0) ≡ run_answer text args limit (length code) (length work)) × (code ≡ run_code text args code (length work)) × (work ≡ run_work text args (length code) work)
+
+    pub run_code_short : length code / 12 < length (translation P) → NoRoom
+    unfolding run_answer run_code run_work admit_run ◌>>=◌ ◌>>◌ judge_arguments judge_room answered with_code cleared no
+    run_code_short h =
+        let k = lt-leb (instruction_words * length (translation P)) (length code) (omega arith) in
+        (rw e (simp (a, k)), rw e (simp (a, k)), rw e (simp (a, k)))
+
+    pub run_work_short : length (translation P) ≤ length code / 12 → length work < work_words → NoRoom
+    unfolding run_answer run_code run_work admit_run ◌>>=◌ ◌>>◌ judge_arguments judge_room answered with_code cleared no
+    run_work_short h w =
+        let k = le-leb (instruction_words * length (translation P)) (length code) (omega arith) in
+        let k' = lt-leb work_words (length work) w in
+        (rw e (simp (a, k, k')), rw e (simp (a, k, k')), rw e (simp (a, k, k')))

@@ -3,6 +3,7 @@
 #![tactic(auto)]
 
 ghost use Rattle.std.specs.Prelude.{◌≡◌, List, ℕ, ◌≤◌, length, IfOk};
+ghost use Rattle.table.specs.declared.Symbol.{Symbol};
 ghost use Rattle.answers.specs.Fitting.{fits_sort, fits_signature, masked};
 ghost use Rattle.answers.specs.Outcomes.{IsRead, CheckOutcome, TranslateOutcome, RunOutcome};
 
@@ -33,7 +34,7 @@ pub fn check_table(
 ) -> Result<Accepted, Refusal>
     requires { IfOk read (λ accepted. (accepted.functions ≤ length table.heads.now) × (accepted.functions ≤ length bodies.now)) }
     ensures { let t = table.entry in
-        (text : List ℕ) → IsRead text read t.symbols.now t.ends.now t.heads.now bodies.now → CheckOutcome text heads.old result heads.new }
+        (text : List ℕ) (symbols : List Symbol) (ends : List ℕ) → IsRead text read symbols ends t.heads.now bodies.now → CheckOutcome text heads.old result heads.new }
 {
     let accepted = read?;
     if heads.len() < accepted.functions {
@@ -110,11 +111,15 @@ pub fn run_table(
     let Some(entry) = table.heads.first() else {
         return Err(NO_FIT);
     };
-    if MOST_ARGUMENTS < args.len() || !arguments_fit(*entry, args) {
+    if !arguments_fit(*entry, args) {
         return Err(NO_FIT);
     }
     if code.len() / INSTRUCTION_WORDS < accepted.instructions || work.len() < WORK_WORDS {
         return Err(NO_ROOM);
+    }
+    // Never met: what fits an entry are eight arguments at most.
+    if MOST_ARGUMENTS < args.len() {
+        return Err(NO_FIT);
     }
     coding::emit(table, accepted.instructions, code);
     let end = INSTRUCTION_WORDS * accepted.instructions;

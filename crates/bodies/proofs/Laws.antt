@@ -236,28 +236,32 @@ good_line L h l from next w w1 w2 e e1 e2 b b1 hs (got t ys) r g a o q k x f =
 
 -- The reading, line by line: what was written before line n, counted from 0, and what is still to come from the address `at` on.
 
-pub record Reading (t b₀ b : List ℕ) (w₀ w : List Entry) (e₀ e : List ℕ) (from at n : ℕ) (left : List Field) : Type 0 where
-  pub place : n + length left ≡ length (lines t)
+pub record Reading (t : List ℕ) (l : ℕ) (hs : List Line) (b₀ b : List ℕ) (w₀ w : List Entry) (e₀ e : List ℕ) (from at n : ℕ) (left : List Field) : Type 0 where
+  pub place : n + length left ≡ l + length hs
   pub index : drop n (lines t) ≡ map as_line left
   pub shapes : Right left
-  pub room : at + total (map as_line left) ≤ from + total (lines t)
+  pub room : at + total (map as_line left) ≤ from + total hs
   pub goes_on : (b1 : List ℕ) (w1 : List Entry) (e1 : List ℕ) (g : Result ℕ Refusal) → Finishes n at b b1 w w1 e e1 (read_bodies (lines t) (n + 1) (map as_line left)) g →
-      Finishes 0 from b₀ b1 w₀ w1 e₀ e1 (read_bodies (lines t) 1 (lines t)) g
+      Finishes l from b₀ b1 w₀ w1 e₀ e1 (read_bodies (lines t) (l + 1) hs) g
 
-pub reading_begins : (t b : List ℕ) (w : List Entry) (e : List ℕ) (from : ℕ) → Right (raw_lines t) → Reading t b b w w e e from from 0 (raw_lines t)
-reading_begins t b w e from r =
-    let x : map as_line (raw_lines t) ≡ lines t = sym (lines_raw t) in
-    let n : 0 + 1 ≡ 1 = omega arith in
+begins : (t : List ℕ) (l : ℕ) (s b : List ℕ) (w : List Entry) (e : List ℕ) (from : ℕ) → Right (raw_lines s) → drop l (lines t) ≡ lines s →
+    Reading t l (lines s) b b w w e e from from l (raw_lines s)
+begins t l s b w e from r d =
+    let x : map as_line (raw_lines s) ≡ lines s = sym (lines_raw s) in
     record {
-      place = omega (arith, ap length x, length-map (raw_lines t) as_line);
-      index = sym x;
+      place = omega (arith, ap length x, length-map (raw_lines s) as_line);
+      index = d ∙ sym x;
       shapes = r;
       room = omega (arith, ap total x);
-      goes_on = λ b1 w1 e1 g f. subst (λ (R : Verdict Program). Finishes 0 from b b1 w w1 e e1 R g) (ap (λ (k : ℕ). read_bodies (lines t) k (map as_line (raw_lines t))) n ∙ ap (read_bodies (lines t) 1) x) f;
+      goes_on = λ b1 w1 e1 g f. subst (λ (R : Verdict Program). Finishes l from b b1 w w1 e e1 R g) (ap (read_bodies (lines t) (l + 1)) x) f;
     }
 
-module _ (t b₀ b : List ℕ) (w₀ w : List Entry) (e₀ e : List ℕ) (from at n : ℕ) (left : List Field) (i : Reading t b₀ b w₀ w e₀ e from at n left) where
-  pub reading_ends : left ≡ [] → Finishes 0 from b₀ b w₀ w e₀ e (read_bodies (lines t) 1 (lines t)) (Ok at)
+pub reading_begins : (t : List ℕ) (l n : ℕ) (s b : List ℕ) (w : List Entry) (e : List ℕ) (from : ℕ) → n ≡ l → Right (raw_lines s) → drop l (lines t) ≡ lines s →
+    Reading t l (lines s) b b w w e e from from n (raw_lines s)
+reading_begins t l n s b w e from z r d = rw z (begins t l s b w e from r d)
+
+module _ (t : List ℕ) (l : ℕ) (hs : List Line) (b₀ b : List ℕ) (w₀ w : List Entry) (e₀ e : List ℕ) (from at n : ℕ) (left : List Field) (i : Reading t l hs b₀ b w₀ w e₀ e from at n left) where
+  pub reading_ends : left ≡ [] → Finishes l from b₀ b w₀ w e₀ e (read_bodies (lines t) (l + 1) hs) (Ok at)
   reading_ends x = i.goes_on b w e (Ok at) (none_left (lines t) (map as_line left) n at (n + 1) b w e (ap (map as_line) x))
 
   -- One line.
@@ -271,7 +275,7 @@ module _ (t b₀ b : List ℕ) (w₀ w : List Entry) (e₀ e : List ℕ) (from a
     pub shaped : (wrong_field (pieces 9 p) ≡ 0) × Right next
     shaped = right_here left p next i.shapes x
 
-    pub fields_left : at + (body_fields p + total (map as_line next)) ≤ from + total (lines t)
+    pub fields_left : at + (body_fields p + total (map as_line next)) ≤ from + total hs
     unfolding total
     fields_left = omega (arith, i.room, ap total lefts, body_length p)
 
@@ -287,16 +291,16 @@ module _ (t b₀ b : List ℕ) (w₀ w : List Entry) (e₀ e : List ℕ) (from a
       pub bad_place : (f : Fault) → r ≡ Err f → at ≤ f.at
       bad_place f q = fault_place (as_line p) at w w1 e e1 (read_body (lines t) (as_line p)) r f filled q
 
-      pub bad_line : (b2 : List ℕ) (f : Fault) → r ≡ Err f → Finishes 0 from b₀ b2 w₀ w1 e₀ e1 (read_bodies (lines t) 1 (lines t)) (Err (refused_at f n at))
+      pub bad_line : (b2 : List ℕ) (f : Fault) → r ≡ Err f → Finishes l from b₀ b2 w₀ w1 e₀ e1 (read_bodies (lines t) (l + 1) hs) (Err (refused_at f n at))
       unfolding read_bodies
       bad_line b2 f q =
           i.goes_on b2 w1 e1 (Err (refused_at f n at))
           (rw lefts (fault_line (lines t) (as_line p) n at w w1 e e1 (map as_line next) (read_body (lines t) (as_line p)) r f b b2 w1 e1 filled q))
 
-      pub reading_on : (there : ℕ) → r ≡ Ok there → n < length b → at ≤ length w → at ≤ length e → there ≤ at + body_fields p → Reading t b₀ (set b n at) w₀ w1 e₀ e1 from there (n + 1) next
+      pub reading_on : (there m : ℕ) → m ≡ n + 1 → r ≡ Ok there → n < length b → at ≤ length w → at ≤ length e → there ≤ at + body_fields p → Reading t l hs b₀ (set b n at) w₀ w1 e₀ e1 from there m next
       unfolding read_bodies
-      reading_on there q h c1 f z =
-          record {
+      reading_on there m u q h c1 f z =
+          rw u record {
             place = omega (arith, i.place, ap length x);
             index = here.2;
             shapes = shaped.1;

@@ -45,10 +45,23 @@ fn refused(fault: Fault, n: usize, from: usize) -> Refusal
     }
 }
 
-// The bodies of a text, line by line, into the table from `from` on, and their addresses: the address after them.
+// What stands in a text from `start` on: nothing past its end.
+fn rest_of(text: &[u8], start: usize) -> &[u8]
+    ensures { result.now ≡ drop start text.now }
+{
+    match text.get(start..) {
+        Some(rest) => rest,
+        None => &[],
+    }
+}
+
+// The bodies of the lines that begin at `start`, the first of them being line `first` counted from 0, line by line into the table from `from` on, and
+// their addresses: the address after them. A whole text begins at 0, with line 0; a text is read on where another call has stopped.
 // The arrays are lent one by one: each contract with a struct of them would also have to say that it still holds the same three, and which stay.
 pub fn read_lines(
     text: &[u8],
+    start: usize,
+    first: usize,
     names: &[u64],
     heads: &[Signature],
     from: usize,
@@ -56,22 +69,24 @@ pub fn read_lines(
     symbols: &mut [Symbol],
     ends: &mut [u32],
 ) -> Result<usize, Refusal>
-    requires shape { (length text.now ≤ most_bytes) × Right (raw_lines text.now) }
-    requires noted { (names.now ≡ map name_number (lines text.now)) × (heads.now ≡ map line_signature (lines text.now)) × (length (lines text.now) ≤ most_functions) }
-    requires room { (length (lines text.now) ≤ length bodies.old) × (from + total (lines text.now) ≤ length symbols.old) × (from + total (lines text.now) ≤ length ends.old) × (5 + (from + total (lines text.now)) < modulus) }
-    ensures { Finishes 0 from bodies.old bodies.new symbols.old symbols.new ends.old ends.new (read_bodies (lines text.now) 1 (lines text.now)) result }
+    requires shape { (length text.now ≤ most_bytes) × Right (raw_lines text.now) × Right (raw_lines (drop start text.now)) × (drop first (lines text.now) ≡ lines (drop start text.now)) }
+    requires noted { (names.now ≡ map name_number (lines text.now)) × (heads.now ≡ map line_signature (lines text.now)) × (length (lines text.now) ≤ most_functions) × (first ≤ most_functions) }
+    requires room { (length (lines text.now) ≤ length bodies.old) × (from + total (lines (drop start text.now)) ≤ length symbols.old) × (from + total (lines (drop start text.now)) ≤ length ends.old) × (5 + (from + total (lines (drop start text.now))) < modulus) }
+    ensures { Finishes first from bodies.old bodies.new symbols.old symbols.new ends.old ends.new (read_bodies (lines text.now) (first + 1) (lines (drop start text.now))) result }
 {
     let mut at = from;
-    for (n, line) in (Lines { rest: text }).enumerate() {
-        bodies[n] = at as u32;
+    let rest = rest_of(text, start);
+    for (n, line) in (Lines { rest }).enumerate() {
+        let l = first + n;
+        bodies[l] = at as u32;
         let tabs = lines::tabs_of(line);
         let end = fill(&line[tabs.result..], names, at, symbols);
         let body = Body {
             symbols: &symbols[..end],
             heads,
-            own: heads[n],
+            own: heads[l],
         };
-        at = body.read(at, ends).map_err(|fault| refused(fault, n, at))?;
+        at = body.read(at, ends).map_err(|fault| refused(fault, l, at))?;
     }
     Ok(at)
 }

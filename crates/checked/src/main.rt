@@ -12,7 +12,7 @@ const PART: u8 = 30;
 
 fn judge(rt: &impl Print, text: &[u8]) -> io::Result<()> {
     let mut table = Table::<MOST_FUNCTIONS, TABLE_SYMBOLS>::new();
-    let c = Checked::of(reading::read(text, &mut table));
+    let c = Checked::of(reading::read_table(text, &mut table));
     // `listed` prints the same five: a line each, and a `Display` of `Checked` would be no shorter.
     println!(rt;
         "{}\t{}\t{}\t{}\t{}",

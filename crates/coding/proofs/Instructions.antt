@@ -1,7 +1,7 @@
 -- One instruction's words, by the tests that the code makes. Assumes nothing.
 use mathlib.Core.Path.{◌≡◌, refl, ap, sym, ◌∙◌, subst}
 use mathlib.Core.List.{List, [], ◌∷◌, ◌++◌, append-nil}
-use Prim.Native.Nat.{◌*◌, ℕ, zero, suc, ◌+◌, ◌-◌, ◌%◌, ◌^◌, ◌≤◌}
+use Prim.Native.Nat.{◌*◌, ℕ, zero, suc, ◌+◌, ◌-◌, ◌^◌, ◌≤◌, min}
 use native.Mathlib.Omega.{arith}
 use native.Mathlib.Numerals.{add-one}
 use lib.ListN.{length, get_or, take, drop, replicate}
@@ -59,7 +59,7 @@ module _ (H : List Signature) (W : List Symbol) (E : List ℕ) where
 -- The words of the instruction of an argument, a constant or an operation, as the code has them.
 abbrev pub plain_words : Symbol → ℕ → List ℕ
 plain_words Unknown b = twelve []
-plain_words (Argument i) b = twelve (1 ∷ b ∷ ((i + 1) % 2 ^ 32) ∷ [])
+plain_words (Argument i) b = twelve (1 ∷ b ∷ min (i + 1) (2 ^ 32 - 1) ∷ [])
 plain_words (Constant s v) b = executed 0 v b
 plain_words (Operation o) b = executed (operation_number o) 0 b
 plain_words Not b = executed 10 0 b
@@ -105,7 +105,7 @@ op_words neg b = refl
 
 plain_is : (H : List Signature) (B : List ℕ) (t : Term) (a b : ℕ) → Shaped (Told H) most_arguments t → Plain (root t) → plain_words (root t) b ≡ words_of (instruction_of B t a b)
 unfolding root instruction_of used_words Shaped twelve
-plain_is H B (arg i) a b h p = let same : (i + 1) % 2 ^ 32 ≡ suc i = omega (arith, h) in rw same refl
+plain_is H B (arg i) a b h p = let same : min (i + 1) (2 ^ 32 - 1) ≡ suc i = omega (arith, h) in rw same refl
 plain_is H B (op o ts) a b h p = op_words o b
 plain_is H B (cond t x y) a b h p = absurd p
 plain_is H B (call f ss ws) a b h p = absurd p

@@ -88,7 +88,7 @@ impl Emitter<'_> {
             Symbol::Argument(i) => store(
                 code,
                 place,
-                [EVAL, next, i.wrapping_add(1), 0, 0, 0, 0, 0, 0, 0, 0, 0],
+                [EVAL, next, i.saturating_add(1), 0, 0, 0, 0, 0, 0, 0, 0, 0],
             ),
             Symbol::Constant(_, value) => store(code, place, execute(CONSTANT, value, next)),
             Symbol::Operation(operation) => store(

@@ -31,7 +31,8 @@ fn answer(input: &[u8], code: &mut [u32], work: &mut [u32]) -> Answer
     let Some(order) = order::read_order(input) else {
         return malformed();
     };
-    nespralha::run(&input[order.text..], &order.args, order.limit, code, work)
+    let args = order.args.as_slice();
+    nespralha::run(&input[order.text..], args, order.limit, code, work)
 }
 
 // The line that answers it.

@@ -107,6 +107,11 @@ module _ (H : List Signature) (W : List Symbol) (E : List ℕ) (a end d i : ℕ)
   put_full o nil h l f = written_none i c
   put_full o (cons t ts) h l f = absurd (omega (arith, f))
 
+  pub put_stuck : (c' : List ℕ) → a < end → get_or E a 0 ≤ a → Entrances H W E a end d i c c'
+  unfolding Entrances size
+  put_stuck c' z o nil h l f = absurd (omega (arith, l))
+  put_stuck c' z o (cons t ts) h l f = absurd (omega (arith, end_is (first_at h), some_size t))
+
   pub put_more : (x : ℕ) (c' : List ℕ) → a < end → i < length c → Entrance H W a d x → Entrances H W E (get_or E a 0) end d (i + 1) (set c i x) c' → Entrances H W E a end d i c c'
   unfolding Entrances Entrance entrances size count
   put_more x c' z o j p nil h l f = absurd (omega (arith, l))

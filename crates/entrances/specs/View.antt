@@ -1,9 +1,11 @@
 -- A term as its symbol sees it: the symbol, its row of arguments, how many of them are worked out before it, what follows them, and its one instruction.
 -- The pages of `meaning` say the same by kinds of terms; proofs/View.antt joins the two. Assumes nothing.
-use Rattle.std.specs.Prelude.{List, [], ◌∷◌, ◌++◌, ℕ, zero, suc, ◌+◌, get_or, slice_get}
+use Rattle.std.specs.Prelude.{◌≡◌, refl, List, [], ◌∷◌, ◌++◌, ℕ, zero, suc, ◌+◌, get_or, slice_get}
 use Rattle.std.specs.Option.{option_map_or}
+use Rattle.meaning.specs.Arithmetic.{add, neg}
 use Rattle.meaning.specs.Terms.{Term, arg, op, cond, call, Terms, nil, cons, Program}
 use Rattle.meaning.specs.Code.{size, sizes, count, entrance, row_entrance, entrances, unsorted, Instruction, EVAL, EXEC, SELECT, CALL, code}
+use Rattle.word.specs.declared.Operation.TheVariants.{Plus}
 use Rattle.table.specs.Symbols.{op_symbol}
 use Rattle.table.specs.declared.Signature.{Signature}
 use Rattle.table.specs.declared.Symbol.{Symbol}
@@ -37,6 +39,11 @@ abbrev pub strict_at : List Signature → ℕ → ℕ
 strict_at H f = option_map_or (λ h. h.strict) (slice_get H f) 0
 
 -- The same from the symbol, H being the functions' signatures.
+-- The table's symbols of the first operation and of `!`.
+pub operations_agree : op_symbol add ∷ op_symbol neg ∷ [] ≡ Operation Plus ∷ Not ∷ []
+unfolding op_symbol
+operations_agree = refl
+
 unfoldable pub leads_of : List Signature → Symbol → ℕ
 leads_of H Unknown = 0
 leads_of H (Argument i) = 0

@@ -305,10 +305,10 @@ decimal_digits (x ∷ y ∷ f) l e =
 
 -- Packed names.
 
-room_more : (b v k : ℕ) → b < 256 → v < 256 ^ k → b + 256 * v < 256 ^ suc k
+pub room_more : (b v k : ℕ) → b < 256 → v < 256 ^ k → b + 256 * v < 256 ^ suc k
 room_more b v k h l = rw (pow-succ' 256 k) (omega arith)
 
-room : (v k : ℕ) → k ≤ 7 → v < 256 ^ k → v < 72057594037927936
+pub room : (v k : ℕ) → k ≤ 7 → v < 256 ^ k → v < 72057594037927936
 room v k h l = omega (arith, pow-le-pow_right {n = 256} (omega arith) h)
 
 -- The packed number of bytes fits in as many bytes.

@@ -31,7 +31,8 @@ fn length_of(digits: &[u8], most: usize) -> usize
 
 // The byte of two digits.
 fn two_digits(high: u8, low: u8) -> u8 {
-    digit(high).wrapping_mul(16).wrapping_add(digit(low))
+    let n = u32::from(digit(high)) * 16 + u32::from(digit(low));
+    (n % 256) as u8
 }
 
 // What \t, \n and \\ stand for.

@@ -1,6 +1,6 @@
 -- Laws of heads: one after the other, that they are the program's, and how they are copied over a slice. Assumes nothing.
 use Prim.Native.Nat.{ℕ, zero, suc, ◌+◌, ◌<◌, ◌≤◌, min}
-use Rattle.heads.specs.Heads.{head, heads_list}
+use Rattle.heads.specs.Heads.{head, heads_list, no_head, heads_by}
 use Rattle.meaning.specs.Answers.{heads_from, heads_of}
 use Rattle.meaning.specs.Code.{size, initial}
 use Rattle.meaning.specs.Terms.{Program}
@@ -8,11 +8,12 @@ use Rattle.meaning.specs.declared.Head.{Head}
 use Rattle.table.proofs.Symbols.{sort_numbered}
 use Rattle.table.specs.Table.{signatures, addresses, addresses_from, Begins}
 use Rattle.table.specs.declared.Signature.{Signature}
-use lib.ListN.{length, get_or, take, drop, set, length-map}
-use lib.Seq.{set_at, take_at, take-length, drop-cons}
+use lib.ListN.{length, get_or, take, drop, set, replicate, length-map}
+use lib.Seq.{set_at, take_at, take-length, length-take-le, drop-cons}
 use mathlib.Core.List.{List, [], ◌∷◌, ◌++◌, append_assoc}
 use mathlib.Core.Path.{◌≡◌, refl, ap, sym, ◌∙◌}
 use Rattle.std.specs.List.{zip, enumerate_from}
+use Rattle.std.proofs.lemmas.List.{drop-replicate}
 use Rattle.std.proofs.lemmas.List.FromFn.{length-enumerate_from, get_or-enumerate_from}
 use Rattle.std.proofs.lemmas.Slice.Zip.{length-zip, get_or-zip}
 use native.Mathlib.Numerals.{add-one}
@@ -65,6 +66,11 @@ pub all_put : (S : List Signature) (B : List ℕ) (D : List Head) (i : ℕ) → 
 all_put S B D i h e =
     let all : i ≡ length S = omega (arith, length-enumerate_from 0 (zip S B), length-zip S B) in
     rw (all, take-length S, list_whole S B h)
+
+-- The first n over as many zeros as a text has functions.
+pub put_first : (S : List Signature) (B : List ℕ) (n : ℕ) → n ≤ length S → heads_list (take n S) (take n B) ++ drop (length (take n S)) (replicate 64 no_head) ≡ heads_by S B n
+unfolding heads_by
+put_first S B n h = rw (length-take-le n S h) (ap (λ (l : List Head). heads_list (take n S) (take n B) ++ l) (drop-replicate n 64 no_head))
 
 -- The heads of a program's functions are meaning's.
 heads_are : (P : Program) (a : ℕ) (rest : List ℕ) → heads_list (signatures P) (addresses_from a P ++ rest) ≡ heads_from a P

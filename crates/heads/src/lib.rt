@@ -1,11 +1,18 @@
-// Heads of functions: the one writer of a lent slice of them, from the table's signatures and addresses. Assumes nothing.
+// Heads of functions, from the table's signatures and addresses: the one writer of a lent slice of them, and an array of them by value. Assumes nothing.
 #![tactic(auto)]
 
 ghost use Rattle.std.specs.Prelude.{◌≡◌, ◌++◌, ◌≤◌, length, drop};
-ghost use Rattle.heads.specs.Heads.{head, heads_list};
+ghost use Rattle.meaning.specs.Numbers.{most_functions};
+ghost use Rattle.heads.specs.Heads.{head, heads_list, heads_by};
 
-use meaning::Head;
+use meaning::{Head, MOST_FUNCTIONS};
 use table::Signature;
+
+// As many heads as a text can have: one a function, then entries of zeros.
+#[derive(Clone, Copy)]
+pub struct Heads {
+    pub list: [Head; MOST_FUNCTIONS],
+}
 
 // "argument count, strict count, result sort (n 0, b 1), address of the body's first symbol"
 #[tactic(auto, unfolding(crate::specs::Heads::head))]
@@ -28,4 +35,20 @@ pub fn put_heads(heads: &mut [Head], signatures: &[Signature], bodies: &[u32])
     for (i, (signature, body)) in signatures.iter().zip(bodies).enumerate() {
         heads[i] = head_of(*signature, *body);
     }
+}
+
+// The heads of the first n functions.
+pub fn heads_of(signatures: &[Signature], bodies: &[u32], n: usize) -> Heads
+    requires { (n ≤ most_functions) × (n ≤ length signatures.now) × (n ≤ length bodies.now) }
+    ensures { result.list ≡ heads_by signatures.now bodies.now n }
+{
+    let none = Head {
+        args: 0,
+        strict: 0,
+        result: 0,
+        body: 0,
+    };
+    let mut list = [none; MOST_FUNCTIONS];
+    put_heads(&mut list, &signatures[..n], &bodies[..n]);
+    Heads { list }
 }

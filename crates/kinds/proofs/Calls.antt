@@ -9,7 +9,7 @@ use lib.Seq.{get_or-take, get_or-drop}
 use native.Mathlib.Nat.{zero-add}
 use borrow.Author.Tests.{lt-ltb, le-ltb}
 use Rattle.meaning.specs.Numbers.{most_arguments}
-use Rattle.meaning.specs.Machine.{Next, no_step, call_body, obey, rewrites}
+use Rattle.meaning.specs.Machine.{Place, Environment, Next, no_step, call_body, obey, rewrites}
 use Rattle.layout.specs.Decoding.{next_word, body_word, entrance_words, row, leading, an_eval, a_call}
 use Rattle.layout.specs.Layout.{values_from, returns, values, environments}
 use Rattle.layout.proofs.Rows.{row_same}
@@ -20,6 +20,10 @@ pub rewrites_eval : (x b : ℕ) → rewrites (an_eval x b) ≡ 0
 unfolding rewrites an_eval
 rewrites_eval zero b = refl
 rewrites_eval (suc i) b = refl
+
+pub calls_too_many : (code : List ℕ) (base x k : ℕ) → k ≡ x → (rs : List Place) (ds : List ℕ) (es : List Environment) → most_arguments < k → obey (a_call code base x) rs ds es ≡ no_step
+unfolding obey a_call
+calls_too_many code base x k kx rs ds es l = rw (lt-ltb most_arguments x (omega arith))
 
 module _ (words : List ℕ) (k : ℕ) where
   -- the words behind the strict count

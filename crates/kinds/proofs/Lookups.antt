@@ -1,5 +1,5 @@
 -- EVAL over the words, by the tests that the code makes: p is the position, e the level whose frame is looked at. Assumes nothing.
-use mathlib.Core.Path.{◌≡◌, ◌∙◌}
+use mathlib.Core.Path.{◌≡◌, sym, ◌∙◌}
 use mathlib.Core.Logic.{◌⊎◌, inl, inr}
 use mathlib.Core.List.{List, ◌∷◌}
 use Prim.Native.Nat.{ℕ, zero, suc, ◌+◌, ◌-◌, ◌≤◌, ◌<◌}
@@ -10,6 +10,10 @@ use Rattle.layout.specs.Decoding.{an_eval}
 use Rattle.layout.specs.Layout.{link_word, strict_word, size_word, slot_words, cell, chain, environments}
 use Rattle.layout.proofs.Slots.{slot_none, slot_past}
 use Rattle.layout.proofs.Steps.{look_value, look_waits, look_none, look_nowhere}
+
+pub looks_no_position : (w : List ℕ) (b : ℕ) (rs : List Place) (ds : List ℕ) (h e x p : ℕ) → p ≡ x → p ≡ 0 → obey (an_eval x b) rs ds (environments w e h) ≡ no_step
+unfolding obey an_eval
+looks_no_position w b rs ds h e x p px q = let z : x ≡ 0 = sym px ∙ q in rw z
 
 module _ (w : List ℕ) (b : ℕ) (rs : List Place) (ds : List ℕ) (h e p : ℕ) (l : e ≤ h) where
   abbrev looks : Next

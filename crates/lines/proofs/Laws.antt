@@ -22,12 +22,13 @@ use lib.Seq.{drop-cons, length-take-le, take-suc, get_or-drop, get_or-take}
 use lib.Dec.{leb, eqb}
 use borrow.Author.Tests.{le-leb, lt-leb, leb-true, leb-false, eqb-true, eqb-false, eq-eqb, ne_eqb}
 use Rattle.meaning.specs.Basics.{all}
-use Rattle.meaning.specs.Arithmetic.{Sort, number, yes_no}
+use Rattle.meaning.specs.Arithmetic.{number, yes_no}
 use Rattle.meaning.specs.Numbers.{LINE, COUNT, NAME}
 use Rattle.meaning.specs.Said.{found, refusal}
-use Rattle.meaning.specs.Text.{Field, fine, refused, Passed, Line, pieces, onto_first, is_visible, is_name, is_capital, is_count, are_sorts, is_result, value, value_from, forms, first_wrong, wrong_field, judge_line, judge_lines, judge_shape, sort_of, line_of, all_but_last, lines, judge_symbols, judge_counts}
+use Rattle.meaning.specs.Text.{Field, fine, refused, Passed, Line, pieces, onto_first, is_visible, is_name, is_capital, is_count, are_sorts, is_sort, is_result, value, value_from, forms, first_wrong, wrong_field, judge_line, judge_lines, judge_shape, sort_of, line_of, all_but_last, lines, judge_symbols, judge_counts}
 use Rattle.meaning.specs.Answers.{sort_number}
 use Rattle.table.specs.Symbols.{signature, mask}
+use Rattle.table.proofs.Symbols.{sort_small}
 use Rattle.table.specs.declared.Signature.{Signature}
 use Rattle.fields.specs.Fields.{span, rest, visible_span, occurrences, count_of, packed, is_name_byte}
 use Rattle.accepted.proofs.Lines.{judged}
@@ -424,11 +425,6 @@ sort_bit_is x = by_test (eqb x 98)
     by_test true = refl
     by_test false = refl
 
-sort_small : (s : Sort) → sort_number s ≤ 1
-unfolding sort_number
-sort_small number = omega arith
-sort_small yes_no = omega arith
-
 -- A mask has as many bits as there are sorts.
 mask_below : (f : List ℕ) → mask (map sort_of f) < 2 ^ length f
 unfolding mask
@@ -539,6 +535,10 @@ one_of (x ∷ y ∷ f) e = let z : ◌≡◌ {A = ℕ} 0 1 = cc in absurd (omega
 pub few_sorts : (s : ℕ) (f : Field) → are_sorts s f ≡ true → length f ≤ 8
 unfolding are_sorts
 few_sorts s f e = leb-true (length f) 8 (and_right (leb 1 (length f)) (leb (length f) 8) (and_left (leb 1 (length f) && leb (length f) 8) _ e))
+
+pub strict_few : (s : ℕ) (f : Field) → are_sorts s f ≡ true → s ≤ length f
+unfolding are_sorts
+strict_few s f e = leb-true s (length f) (and_left (leb s (length f)) (all is_sort f) (and_right (leb 1 (length f) && leb (length f) 8) _ e))
 
 one_result : (f : Field) → is_result f ≡ true → 1 ≤ length f
 unfolding is_result
@@ -726,7 +726,7 @@ scan_begins t names heads h =
     }
 
 -- A refused shape.
-scan_refused : (t names names' : List ℕ) (heads heads' : List Signature) (l k : ℕ) → judge_shape t ≡ refused LINE l k → Scan t names names' heads heads' (Err (misfit l k))
+pub scan_refused : (t names names' : List ℕ) (heads heads' : List Signature) (l k : ℕ) → judge_shape t ≡ refused LINE l k → Scan t names names' heads heads' (Err (misfit l k))
 unfolding found
 scan_refused t names names' heads heads' l k x =
     record {

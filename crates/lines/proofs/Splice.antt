@@ -45,6 +45,10 @@ pub splice_length : {A : Type 0} (e : List A) (a : ℕ) (xs : List A) → a + le
 splice_length e a xs h =
     simp (length-append, length-take-le a e (omega arith), length-drop, length-drop) (omega arith)
 
+-- What was written, from its beginning on.
+pub drop_splice : {A : Type 0} (e : List A) (a : ℕ) (xs : List A) → a ≤ length e → drop a (splice e a xs) ≡ xs ++ drop (length xs) (drop a e)
+drop_splice e a xs h = drop_at (take a e) (xs ++ drop (length xs) (drop a e)) a (length-take-le a e h)
+
 -- A list that is written from its beginning begins with what was written.
 pub take_splice : {A : Type 0} (e : List A) (n : ℕ) (xs : List A) → length xs ≡ n → take n (splice e 0 xs) ≡ xs
 take_splice e n xs h = take_at xs (drop (length xs) e) n h

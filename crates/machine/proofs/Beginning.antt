@@ -1,15 +1,14 @@
 -- How a run begins: level 1 with the frame of the arguments. Assumes nothing.
 use mathlib.Core.Path.{◌≡◌, refl, sym, ap, ◌∙◌, subst}
+use mathlib.Core.Bool.{Bool, true, false}
 use mathlib.Core.List.{List, [], ◌∷◌, map, append-nil}
 use Prim.Native.Nat.{ℕ, ◌+◌, ◌-◌, ◌≤◌, ◌<◌}
 use native.Mathlib.Nat.{sub_self}
 use native.Mathlib.Omega.{arith}
 use lib.ListN.{length, get_or, drop, set, length-set}
 use lib.Seq.{get_or-set_same, get_or-set_other, drop-set-lt}
-use borrow.Author.Rules.{rules}
-use borrow.Rule.Slice.PartMut.{put_mid}
-use Rattle.std.proofs.lemmas.Slice.{overwrites, drop-put_mid}
-use Rattle.std.proofs.lemmas.List.{places}
+use lib.Dec.{eqb}
+use borrow.Author.Tests.{eqb-true, eqb-false}
 use Rattle.meaning.specs.Numbers.{most_arguments, work_words}
 use Rattle.meaning.specs.Machine.{value, start}
 use Rattle.layout.specs.Decoding.{row}
@@ -21,18 +20,35 @@ use Rattle.machine.specs.Ends.{Begun}
 abbrev first_slot : ℕ
 first_slot = level_words + slot_words
 
--- the arguments have come to the slots of level 1
-pub record Given (w v args : List ℕ) : Type 0 where
+-- the first n arguments have come to the slots of level 1
+pub record Given (w v args : List ℕ) (n : ℕ) : Type 0 where
   pub long : length v ≡ length w
-  pub taken : (i : ℕ) → i < length args → get_or v (first_slot + i) 0 ≡ get_or args i 0
+  pub taken : (i : ℕ) → i < n → get_or v (first_slot + i) 0 ≡ get_or args i 0
   pub kept : drop work_words v ≡ drop work_words w
 
-pub given : (w args ys : List ℕ) → work_words ≤ length w → length args ≤ most_arguments → ys ≡ args → Given w (put_mid first_slot (first_slot + length args - first_slot) w ys) args
-given w args ys room few e = rw e (record {
-  long = search (rules, overwrites);
-  taken = λ i h. search (rules, places);
-  kept = drop-put_mid first_slot (first_slot + length args - first_slot) w args work_words (omega arith) (omega arith) (omega arith);
-})
+pub given_none : (w args : List ℕ) → Given w w args 0
+given_none w args = record { long = refl; taken = λ i h. absurd (omega arith); kept = refl }
+
+module _ (w v args : List ℕ) (n : ℕ) (room : work_words ≤ length w) (few : n < most_arguments) (g : Given w v args n) where
+  abbrev more : List ℕ
+  more = set v (first_slot + n) (get_or args n 0)
+
+  taken_by : (i : ℕ) (b : Bool) → eqb i n ≡ b → i < n + 1 → get_or more (first_slot + i) 0 ≡ get_or args i 0
+  taken_by i true e h =
+      let s : i ≡ n = eqb-true i n e in
+      let l : first_slot + n < length v = omega (arith, g.long) in
+      rw s (get_or-set_same v (first_slot + n) (get_or args n 0) 0 l)
+  taken_by i false e h = get_or-set_other v (first_slot + n) (first_slot + i) (get_or args n 0) 0 (λ q. eqb-false i n e (omega arith)) ∙ g.taken i (omega (arith, eqb-false i n e))
+
+  pub given_more : Given w more args (n + 1)
+  given_more = record {
+    long = length-set v (first_slot + n) (get_or args n 0) ∙ g.long;
+    taken = λ i h. taken_by i (eqb i n) refl h;
+    kept = drop-set-lt work_words v (first_slot + n) (get_or args n 0) (omega arith) ∙ g.kept;
+  }
+
+pub given_all : (w v args : List ℕ) (n : ℕ) → Given w v args n → n ≡ length args → Given w v args (length args)
+given_all w v args n g e = subst (Given w v args) e g
 
 frame_by : (v args : List ℕ) → cell v 1 strict_word ≡ length args → cell v 1 size_word ≡ length args → length args ≤ most_arguments → row v first_slot (length args) ≡ args → frame v 1 ≡ map value args
 unfolding frame row
@@ -42,7 +58,7 @@ held_by : (v args : List ℕ) (a : ℕ) → frame v 1 ≡ map value args → hol
 unfolding holds place returns values environments chain start
 held_by v args a f = rw f
 
-module _ (w u args : List ℕ) (room : work_words ≤ length w) (few : length args ≤ most_arguments) (g : Given w u args) where
+module _ (w u args : List ℕ) (room : work_words ≤ length w) (few : length args ≤ most_arguments) (g : Given w u args (length args)) where
   abbrev u1 : List ℕ
   u1 = set u (level_words + link_word) 0
 

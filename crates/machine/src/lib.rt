@@ -20,8 +20,10 @@ fn begin(args: &[u32], work: &mut [u32])
     requires { (work_words ≤ length work.old) × (length args.now ≤ most_arguments) }
     ensures { Begun work.old work.new args.now }
 {
-    let slots = layout::LEVEL_WORDS + layout::SLOTS;
-    work[slots..slots + args.len()].copy_from_slice(args);
+    // A loop: a copy of a slice is a call of C's `memmove`, and the engine's archive asks for no name but what its arrays need.
+    for n in 0..args.len() {
+        work[layout::LEVEL_WORDS + layout::SLOTS + n] = args[n];
+    }
     work[layout::LEVEL_WORDS + layout::LINK] = 0;
     work[layout::LEVEL_WORDS + layout::STRICT] = args.len() as u32;
     work[layout::LEVEL_WORDS + layout::SIZE] = args.len() as u32;
@@ -69,11 +71,8 @@ fn drive(code: &[u32], work: &mut [u32], begin: u32, limit: u32) -> Answer
         deep: 0,
         tally: Tally::new(),
     };
-    // No `for`: the tally counts the steps, and the loop ends by what the machine comes to.
+    // No `for`: the tally counts the steps, and the loop ends by what the machine comes to. It begins with one level, so that only a step can stop it.
     loop {
-        if s.high == 0 {
-            return answer(s, Number::Halt);
-        }
         if u64::from(limit) <= s.tally.steps {
             return answer(s, Number::Fuel);
         }
@@ -81,6 +80,9 @@ fn drive(code: &[u32], work: &mut [u32], begin: u32, limit: u32) -> Answer
             Ok(next) => next,
             Err(number) => return answer(s, number),
         };
+        if s.high == 0 {
+            return answer(s, Number::Halt);
+        }
     }
 }
 

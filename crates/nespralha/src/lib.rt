@@ -31,7 +31,7 @@ fn check_in<const F: usize, const S: usize>(
     requires { let t = table.old in Fit text.now t.names t.heads t.bodies t.symbols t.ends }
     ensures { CheckOutcome text.now heads.old result heads.new }
 {
-    let read = reading::read(text, table);
+    let read = reading::read_table(text, table);
     answers::check_table(read, table.view(), &table.bodies, heads)
 }
 
@@ -56,7 +56,7 @@ fn translate_in<const F: usize, const S: usize>(
     requires { let t = table.old in Fit text.now t.names t.heads t.bodies t.symbols t.ends }
     ensures { TranslateOutcome text.now code.old result code.new }
 {
-    let read = reading::read(text, table);
+    let read = reading::read_table(text, table);
     answers::translate_table(read, table.view(), code)
 }
 
@@ -85,7 +85,7 @@ fn run_in<const F: usize, const S: usize>(
     requires { let t = table.old in Fit text.now t.names t.heads t.bodies t.symbols t.ends }
     ensures { RunOutcome text.now args.now limit code.old work.old result code.new work.new }
 {
-    let read = reading::read(text, table);
+    let read = reading::read_table(text, table);
     answers::run_table(read, table.view(), args, limit, code, work)
 }
 

@@ -1,24 +1,24 @@
 -- Laws of first lines: one argument more, and what the whole line asks for. Assumes nothing.
-use Rattle.std.specs.Prelude.{if◌then◌else◌, Option, Some, None, Result, Ok, Err, OnOk, is_ok}
-use Rattle.std.specs.Result.{OnErr}
+use Rattle.std.specs.Prelude.{if◌then◌else◌, Option, Some, None}
 use Rattle.std.specs.Option.{option_map}
 use mathlib.Core.Path.{◌≡◌, refl, ap, sym, ◌∙◌}
-use mathlib.Core.Bool.{Bool, true, false, ◌&&◌, and-false, false≢true}
+use mathlib.Core.Bool.{Bool, true, false, ◌&&◌, and-false}
 use mathlib.Core.List.{List, [], ◌∷◌, ◌++◌, map, append-nil, append_assoc}
 use Prim.Native.Nat.{ℕ, suc, ◌+◌, ◌≤◌, ◌<◌}
 use native.Mathlib.Omega.{arith}
 use native.Mathlib.Nat.{zero-add}
 use lib.Dec.{leb, leb-suc-suc}
-use lib.ListN.{length, take, drop, length-take, length-append, length-map}
+use lib.ListN.{length, take, drop, length-take, length-append}
 use borrow.Author.Tests.{le-leb, lt-leb, leb-true, leb-false}
 use Rattle.meaning.specs.Text.{Field, pieces, tab, line_end, value}
 use Rattle.meaning.specs.Terms.{is_decimal}
 use Rattle.meaning.specs.Program.{malformed, order, are_decimals, is_first_line, limit_and_arguments, ordered, order_of}
 use Rattle.fields.specs.Fields.{span, rest, decimal_of}
 use Rattle.fields.proofs.Laws.{first_piece, next_piece, no_piece}
-use Rattle.arrayvec.specs.ArrayVec.{ArrayVec}
-use Rattle.order.specs.Asked.{arguments_from, arguments_read, line_read, Asks}
+use Rattle.order.specs.Lists.{values_of, with_argument}
+use Rattle.order.specs.Asked.{Said, said, arguments_from, line_read, Asks}
 use Rattle.order.specs.declared.Order.{Order as Read}
+use Rattle.order.specs.declared.list.ArgumentList.{ArgumentList}
 
 -- a field that is a decimal, and one that is none
 is_value : (f : Field) (b : Bool) (v : ℕ) → (if b then Some (value f) else None) ≡ Some v → (b ≡ true) × (value f ≡ v)
@@ -33,30 +33,30 @@ either_none : (b : Bool) → ◌≡◌ {A = Option (List ℕ)} (if b then None e
 either_none true = refl
 either_none false = refl
 
--- What is said of a value or of an error, where the result is one.
-pub on_ok : {A E : Type 0} (r : Result A E) (P : Type 0) → true ≡ is_ok r → OnOk r P → P
-on_ok (Ok x) P e h = h
-on_ok (Err x) P e h = absurd (false≢true (sym e))
+has_room : (b : Bool) (us ws : List ℕ) → Some ws ≡ (if b then None else Some us) → (b ≡ false) × (ws ≡ us)
+has_room true us ws e = (cc, cc)
+has_room false us ws e = (refl, cc)
 
-pub on_err : {A E : Type 0} (r : Result A E) (P : Type 0) → false ≡ is_ok r → OnErr r P → P
-on_err (Ok x) P e h = absurd (false≢true e)
-on_err (Err x) P e h = h
+no_room : (b : Bool) (us : List ℕ) → None ≡ (if b then None else Some us) → b ≡ true
+no_room true us e = refl
+no_room false us e = cc
 
 -- One field more: a decimal, none, or one too many.
 module _ (f : Field) (fs : List Field) (vs : List ℕ) where
-  pub one_argument : (v : ℕ) → length vs < 8 → Some v ≡ decimal_of f → arguments_from (vs ++ (v ∷ [])) fs ≡ arguments_from vs (f ∷ fs)
-  unfolding arguments_from decimal_of
-  one_argument v few d =
-      let w = is_value f (is_decimal f) v (sym d) in
-      simp (lt-leb 8 (length vs) few, w.0, w.1)
+  pub one_argument : (v : ℕ) (ws : List ℕ) → Some ws ≡ with_argument vs v → Some v ≡ decimal_of f → arguments_from ws fs ≡ arguments_from vs (f ∷ fs)
+  unfolding arguments_from decimal_of with_argument
+  one_argument v ws w d =
+      let e = has_room (leb 8 (length vs)) (vs ++ (v ∷ [])) ws w in
+      let n = is_value f (is_decimal f) v (sym d) in
+      simp (e.0, n.0, n.1, e.1)
 
   pub no_argument : None ≡ decimal_of f → arguments_from vs (f ∷ fs) ≡ None
   unfolding arguments_from decimal_of
   no_argument d = let w = is_none f (is_decimal f) (sym d) in rw w (either_none (leb 8 (length vs)))
 
-  pub too_many : length vs ≡ 8 → arguments_from vs (f ∷ fs) ≡ None
-  unfolding arguments_from
-  too_many many = simp (le-leb 8 (length vs) (omega (arith, many)))
+  pub too_many : (v : ℕ) → None ≡ with_argument vs v → arguments_from vs (f ∷ fs) ≡ None
+  unfolding arguments_from with_argument
+  too_many v w = simp (no_room (leb 8 (length vs)) (vs ++ (v ∷ [])) w)
 
 pub no_more : (vs : List ℕ) (fs : List Field) → fs ≡ [] → arguments_from vs fs ≡ Some vs
 unfolding arguments_from
@@ -70,18 +70,17 @@ line_none line e text q d =
     let w = is_none (take (span tab line) line) (is_decimal (take (span tab line) line)) (sym (rw k at d)) in
     rw first_piece (simp w)
 
-with_arguments : (limit text : ℕ) (x : Option (List ℕ)) →
-    option_map (λ a. record { limit = limit; args = a; text = text }) (arguments_read x) ≡ option_map {U = Read} (λ a. record { limit = limit; args = record { items = a }; text = text }) x
+with_arguments : (limit text : ℕ) (r : Option ArgumentList) → option_map said (option_map (λ a. record { limit = limit; args = a; text = text }) r) ≡ option_map {U = Said} (λ a. record { limit = limit; args = a; text = text }) (option_map values_of r)
 with_arguments limit text (Some a) = refl
 with_arguments limit text None = refl
 
-pub line_some : (line : List ℕ) (e text v : ℕ) (r : Option (ArrayVec ℕ)) → e ≡ 0 + span tab (drop 0 line) → Some v ≡ decimal_of (take e line) → r ≡ arguments_read (arguments_from [] (rest tab (drop e line))) →
-    option_map (λ a. record { limit = v; args = a; text = text }) r ≡ line_read text (pieces tab line)
+pub line_some : (line : List ℕ) (e text v : ℕ) (r : Option ArgumentList) → e ≡ 0 + span tab (drop 0 line) → Some v ≡ decimal_of (take e line) → option_map values_of r ≡ arguments_from [] (rest tab (drop e line))
+    → option_map said (option_map (λ a. record { limit = v; args = a; text = text }) r) ≡ line_read text (pieces tab line)
 unfolding line_read decimal_of
 line_some line e text v r q d x =
     let k : e ≡ span tab line = omega arith in
     let w = is_value (take (span tab line) line) (is_decimal (take (span tab line) line)) v (sym (rw k at d)) in
-    rw (x, with_arguments v text (arguments_from [] (rest tab (drop e line))), first_piece, k) (simp (w.0, w.1))
+    rw (with_arguments v text r, x, first_piece, k) (simp (w.0, w.1))
 
 -- All arguments of a line at once.
 pub arguments_are : (vs : List ℕ) (fs : List Field) → length vs ≤ 8 → arguments_from vs fs ≡ (if leb (length vs + length fs) 8 && are_decimals fs then Some (vs ++ map value fs) else None)
@@ -123,28 +122,41 @@ unfolding Asks is_first_line
 too_long input e p h l =
     rw (order_ended input e (omega arith) h) (simp (lt-leb (length (take e input)) 128 (omega (arith, length-take e input))))
 
--- What the fields of an ended line ask for.
-asked : (input : List ℕ) (k : ℕ) (f : Field) (fs : List Field) → k ≤ length input
-    → Asks input (if leb (length (f ∷ fs)) 9 && are_decimals (f ∷ fs) then limit_and_arguments (f ∷ fs) (drop k input) else malformed) (line_read k (f ∷ fs))
-unfolding line_read Asks limit_and_arguments are_decimals
-asked input k f fs in_it = rw (leb-suc-suc (length fs) 8, arguments_are [] fs (omega arith), zero-add) (by (is_decimal f) (leb (length fs) 8) refl (are_decimals fs))
-  where
-    by : (d l : Bool) → leb (length fs) 8 ≡ l → (a : Bool) → Asks input (if l && (d && a) then order (value f) (map value fs) (drop k input) else malformed)
-        (if d then option_map (λ a. record { limit = value f; args = record { items = a }; text = k }) (if l && a then Some (map value fs) else None) else None)
-    by true true e true = (refl, refl, omega (arith, length-map fs value, leb-true (length fs) 8 e), refl, in_it)
-    by true true e false = refl
-    by true false e true = refl
-    by true false e false = refl
-    by false true e true = refl
-    by false true e false = refl
-    by false false e true = refl
-    by false false e false = refl
+-- What is said of what was read.
+none_said : (r : Option Read) → option_map said r ≡ None → r ≡ None
+none_said None h = refl
+none_said (Some o) h = cc
 
-pub well_ended : (input : List ℕ) (e : ℕ) (r : Option Read) → e ≡ 0 + span line_end (drop 0 input) → e < length input → e ≤ 128 → r ≡ line_read (e + 1) (pieces tab (take e input))
+some_said : (input : List ℕ) (r : Option Read) (limit k : ℕ) (args : List ℕ) → k ≤ length input → option_map said r ≡ Some (record { limit = limit; args = args; text = k }) → Asks input (order limit args (drop k input)) r
+unfolding Asks
+some_said input None limit k args in_it h = cc
+some_said input (Some o) limit k args in_it h =
+    let e : said o ≡ record { limit = limit; args = args; text = k } = cc in
+    let few : length (values_of o.args) ≤ 8 = omega (arith, length-take o.args.count o.args.values) in
+    (ap (λ s. s.limit) e, ap (λ s. s.args) e, few, ap (λ s. drop s.text input) e, omega (arith, ap (λ s. s.text) e))
+
+-- What the fields of an ended line ask for.
+asked : (input : List ℕ) (k : ℕ) (f : Field) (fs : List Field) (r : Option Read) → k ≤ length input → option_map said r ≡ line_read k (f ∷ fs)
+    → Asks input (if leb (length (f ∷ fs)) 9 && are_decimals (f ∷ fs) then limit_and_arguments (f ∷ fs) (drop k input) else malformed) r
+unfolding line_read Asks limit_and_arguments are_decimals
+asked input k f fs r in_it h = rw (leb-suc-suc (length fs) 8) (by (is_decimal f) (leb (length fs) 8) (are_decimals fs) (rw (arguments_are [] fs (omega arith), zero-add) at h))
+  where
+    by : (d l a : Bool) → option_map said r ≡ (if d then option_map (λ a. record { limit = value f; args = a; text = k }) (if l && a then Some (map value fs) else None) else None)
+        → Asks input (if l && (d && a) then order (value f) (map value fs) (drop k input) else malformed) r
+    by true true true h = some_said input r (value f) k (map value fs) in_it h
+    by true true false h = none_said r h
+    by true false true h = none_said r h
+    by true false false h = none_said r h
+    by false true true h = none_said r h
+    by false true false h = none_said r h
+    by false false true h = none_said r h
+    by false false false h = none_said r h
+
+pub well_ended : (input : List ℕ) (e : ℕ) (r : Option Read) → e ≡ 0 + span line_end (drop 0 input) → e < length input → e ≤ 128 → option_map said r ≡ line_read (e + 1) (pieces tab (take e input))
     → Asks input (order_of input) r
 unfolding is_first_line
 well_ended input e r q h l f =
     let p = take e input in
     let fits : length p ≤ 128 = omega (arith, length-take e input) in
-    rw (f, order_ended input e (omega arith) h)
-    (simp (le-leb (length p) 128 fits) (rw (first_piece tab p) (asked input (e + 1) (take (span tab p) p) (rest tab (drop (span tab p) p)) (omega arith))))
+    rw (order_ended input e (omega arith) h)
+    (simp (le-leb (length p) 128 fits) (rw (first_piece tab p) (asked input (e + 1) (take (span tab p) p) (rest tab (drop (span tab p) p)) r (omega arith) (rw (first_piece tab p) at f))))

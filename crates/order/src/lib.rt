@@ -6,10 +6,13 @@ ghost use Rattle.std.specs.Option.{option_map};
 ghost use Rattle.meaning.specs.Text.{pieces, tab};
 ghost use Rattle.meaning.specs.Program.{order_of};
 ghost use Rattle.fields.specs.Fields.{rest};
-ghost use Rattle.order.specs.Asked.{arguments_from, arguments_read, line_read, Asks};
+ghost use Rattle.order.specs.Lists.{values_of};
+ghost use Rattle.order.specs.Asked.{arguments_from, said, line_read, Asks};
 
-use arrayvec::ArrayVec;
+mod list;
+
 use lines::LineFields;
+pub use list::ArgumentList;
 
 // The longest first line.
 const FIRST_LINE_BYTES: usize = 128;
@@ -17,10 +20,10 @@ const FIRST_LINE_BYTES: usize = 128;
 // So many bytes of standard input settle the answer (`enough` in proofs/Enough.antt): the longest first line with its end, and a byte more than the longest text.
 pub const MOST_INPUT: usize = FIRST_LINE_BYTES + 1 + (meaning::MOST_BYTES + 1);
 
-pub type Arguments = ArrayVec<u32, { meaning::MOST_ARGUMENTS }>;
+pub type Arguments = ArgumentList;
 
 // What a well-formed first line asks for: limit, arguments, and where the text after it begins.
-#[derive(Drop)]
+#[derive(Clone, Copy)]
 pub struct Order {
     pub limit: u32,
     pub args: Arguments,
@@ -29,18 +32,18 @@ pub struct Order {
 
 // The arguments of a first line, by what stands after the limit: from the tab before the first of them on.
 fn arguments(after: &[u8]) -> Option<Arguments>
-    ensures { result ≡ arguments_read (arguments_from [] (rest tab after.now)) }
+    ensures { option_map values_of result ≡ arguments_from [] (rest tab after.now) }
 {
     let mut args = Arguments::new();
     for field in (LineFields { rest: after }) {
-        args.try_push(fields::decimal_value(field)?).ok()?;
+        args = args.push(fields::decimal_value(field)?)?;
     }
     Some(args)
 }
 
 // The limit and the arguments of a first line.
 fn decimals(line: &[u8], text: usize) -> Option<Order>
-    ensures { result ≡ line_read text (pieces tab line.now) }
+    ensures { option_map said result ≡ line_read text (pieces tab line.now) }
 {
     let end = fields::piece_end(line, 0, fields::TAB);
     let limit = fields::decimal_value(&line[..end])?;

@@ -2,9 +2,14 @@
 use Rattle.std.proofs.Common.{ℕ, zero, suc, ◌≡◌, ◌+◌, ◌/◌, ◌%◌, ◌^◌, ◌<◌, ◌≤◌, List, [], ◌∷◌, ◌++◌, append_assoc, ap, sym, ◌∙◌, arith, eqb, false, inl, inr, lit<}
 use Rattle.std.proofs.Math.Nat.{div-one, div-eq_of_lt, div-div-eq-div-mul, div-lt_iff_lt-mul, le-div_iff_mul-le, pow-suc, pow-succ', mod-eq_of_lt, one-le-pow}
 use Rattle.std.proofs.lemmas.Bool.{cases_lt, ne_eqb}
+use mathlib.Core.List.{append-nil}
+use native.Mathlib.Numerals.{add-one}
+use lib.ListN.{length, get_or, drop, drop_of_length-le}
+use lib.Seq.{drop-cons}
+use borrow.Author.Tests.{eq-eqb}
 use Rattle.std.specs.Fmt as text
 use Rattle.std.proofs.lemmas.Fmt.{decimal_digit, decimal_step}
-use Rattle.meaning.specs.Program.{without_zeros, decimal, printed_field}
+use Rattle.meaning.specs.Program.{ten_places, without_zeros, decimal, printed_field}
 
 -- The last k digits of n, as bytes.
 unfoldable digits : ℕ → ℕ → List ℕ
@@ -54,3 +59,44 @@ decimal_is n h = zeros_passed 9 n (omega (arith, h)) (omega (arith, h))
 pub field_printed : (line : List ℕ) (n end : ℕ) → n < 2 ^ 32 → (line ++ text.decimal n) ++ (end ∷ []) ≡ line ++ printed_field n end
 unfolding printed_field
 field_printed line n end h = rw (append_assoc, decimal_is n h)
+
+-- a leading zero is passed over where another digit follows
+pub skip : (xs : List ℕ) (i : ℕ) → suc i < length xs → get_or xs i 0 ≡ 48 → without_zeros (drop i xs) ≡ without_zeros (drop (suc i) xs)
+unfolding without_zeros
+skip [] i h e = absurd (omega arith)
+skip (x ∷ []) i h e = absurd (omega arith)
+skip (x ∷ y ∷ xs) zero h e = simp (eq-eqb x 48 e)
+skip (x ∷ y ∷ xs) (suc i) h e = skip (y ∷ xs) i (omega arith) e
+
+-- a digit that is no zero begins what is shown
+pub begin : (xs : List ℕ) (i : ℕ) → suc i < length xs → (get_or xs i 0 ≡ 48 → ⊥) → without_zeros (drop i xs) ≡ drop i xs
+unfolding without_zeros
+begin [] i h e = absurd (omega arith)
+begin (x ∷ []) i h e = absurd (omega arith)
+begin (x ∷ y ∷ xs) zero h e = simp (ne_eqb x 48 e)
+begin (x ∷ y ∷ xs) (suc i) h e = begin (y ∷ xs) i (omega arith) e
+
+pub place_positive : (i : ℕ) → i < 10 → 1 ≤ get_or ten_places i 0
+place_positive zero h = omega arith
+place_positive (suc zero) h = omega arith
+place_positive (suc (suc zero)) h = omega arith
+place_positive (suc (suc (suc zero))) h = omega arith
+place_positive (suc (suc (suc (suc zero)))) h = omega arith
+place_positive (suc (suc (suc (suc (suc zero))))) h = omega arith
+place_positive (suc (suc (suc (suc (suc (suc zero)))))) h = omega arith
+place_positive (suc (suc (suc (suc (suc (suc (suc zero))))))) h = omega arith
+place_positive (suc (suc (suc (suc (suc (suc (suc (suc zero)))))))) h = omega arith
+place_positive (suc (suc (suc (suc (suc (suc (suc (suc (suc zero))))))))) h = omega arith
+place_positive (suc (suc (suc (suc (suc (suc (suc (suc (suc (suc i)))))))))) h = absurd (omega arith)
+
+-- a line with one more of the bytes ys
+pub one_more : (s xs ys whole : List ℕ) (i d : ℕ) → s ≡ xs ++ (d ∷ []) → d ≡ get_or ys i 0 → i < length ys → xs ++ drop i ys ≡ whole → s ++ drop (i + 1) ys ≡ whole
+one_more s xs ys whole i d e k h w =
+    ap (λ l. l ++ drop (i + 1) ys) e
+    ∙ append_assoc xs (d ∷ []) (drop (i + 1) ys)
+    ∙ ap (λ l. xs ++ l) (rw (add-one, k) (sym (drop-cons ys i 0 h)))
+    ∙ w
+
+-- a line with all of them
+pub no_more : (s ys whole : List ℕ) (i : ℕ) → length ys ≤ i → s ++ drop i ys ≡ whole → s ≡ whole
+no_more s ys whole i h w = sym (append-nil s) ∙ ap (λ l. s ++ l) (sym (drop_of_length-le ys h)) ∙ w

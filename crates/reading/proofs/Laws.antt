@@ -1,12 +1,12 @@
 -- Laws of Check's core: the order of refusals, arrays that fit, and the table of an accepted text. Assumes nothing.
-use Rattle.std.specs.Prelude.{Ok, Err}
+use Rattle.std.specs.Prelude.{Result, Ok, Err}
 use Rattle.std.proofs.Common.{◌≡◌, ℕ, ◌+◌, ◌*◌, ◌<◌, ◌≤◌, List, [], ◌∷◌, ◌++◌, map, length, get_or, take, drop, refl, ap, sym, ◌∙◌, subst, arith}
 use Rattle.std.specs.List.{range_with_len}
 use Rattle.std.proofs.lemmas.List.{map-append, length-map}
 use Rattle.std.proofs.lemmas.List.FromFn.{length-range_with_len}
 use Rattle.std.proofs.lemmas.Bool.{lt-leb, le-leb}
 use Rattle.meaning.specs.Numbers.{LONG, most_bytes, most_functions}
-use Rattle.meaning.specs.Text.{Field, Line, Verdict, is_among, fine, refused, Passed, ◌>>◌, judge_length, judge_shape, judge_counts, judge_names, lines}
+use Rattle.meaning.specs.Text.{Field, Line, Verdict, pieces, line_of, value, sort_of, is_among, fine, refused, Passed, ◌>>◌, judge_length, judge_shape, judge_counts, judge_names, lines}
 use Rattle.meaning.specs.Terms.{Function, Program, read_bodies}
 use Rattle.meaning.specs.Code.{size, initial, translation, bodies_size, ret_address}
 use Rattle.meaning.specs.Check.{check}
@@ -26,7 +26,7 @@ use Rattle.accepted.proofs.Lines.{Lined, symbols, shape_lines, counts_few}
 use Rattle.lines.specs.Splice.{splice}
 use Rattle.lines.specs.Lines.{shown, is_held, judge_packed, Right, raw_lines, total, line_signature, name_number, counts_of, Scan}
 use Rattle.lines.proofs.Splice.{splice_more, take_splice}
-use Rattle.lines.proofs.Laws.{lines_raw, right_shape, shaped_within}
+use Rattle.lines.proofs.Laws.{as_line, lines_raw, right_forms, few_sorts, right_shape, shaped_within}
 use Rattle.fields.specs.Fields.{packed}
 use Rattle.fields.proofs.Laws.{packed_same}
 use Rattle.symbols.proofs.Names.{Names, Name}
@@ -34,7 +34,7 @@ use Rattle.bodies.specs.Bodies.{Finishes}
 use Rattle.bodies.proofs.Laws.{names, named_lines, names_packed}
 use Rattle.lines.specs.declared.Counted.{Counted}
 use Rattle.reading.specs.Reading.{Counted as Sized, initial_room, Fit}
-use Rattle.reading.proofs.Programs.{Of, of_bodies, of_length, of_signatures, initial_symbols, initial_ends}
+use Rattle.reading.proofs.Programs.{Of, of_bodies, sizes_of, of_length, of_signatures, initial_symbols, initial_ends}
 
 -- The order of refusals.
 
@@ -52,7 +52,7 @@ module _ (t : List ℕ) where
   unfolding check judge_length ◌>>◌ found
   too_long h = rw (lt-leb (length t) 16384 h)
 
-  not_long : length t ≤ most_bytes → check t ≡ (judge_shape t >> (judge_counts (lines t) >> (judge_names 1 [] (map (λ h. h.name) (lines t)) >> read_bodies (lines t) 1 (lines t))))
+  pub not_long : length t ≤ most_bytes → check t ≡ (judge_shape t >> (judge_counts (lines t) >> (judge_names 1 [] (map (λ h. h.name) (lines t)) >> read_bodies (lines t) 1 (lines t))))
   unfolding check judge_length ◌>>◌
   not_long h = rw (le-leb (length t) 16384 h)
 
@@ -84,6 +84,16 @@ symbols_total (h ∷ hs) = ap (λ (n : ℕ). length h.body + n) (symbols_total h
 abbrev pub first_count : List Signature → ℕ
 first_count H = (get_or H 0 (record { sorts = record { count = 0; mask = 0 }; strict = 0; result = Number })).sorts.count
 
+few_of : (ps : List Field) → Right ps → 0 < length (map as_line ps) → first_count (map line_signature (map as_line ps)) ≤ 8
+unfolding Right line_signature line_of
+few_of [] r o = absurd (omega (arith, o))
+few_of (p ∷ ps) r o =
+    let F = right_forms (pieces 9 p) r.0 in
+    rw (length-map (get_or (pieces 9 p) 2 []) sort_of) (few_sorts (value (get_or (pieces 9 p) 1 [])) (get_or (pieces 9 p) 2 []) F.sorts_form)
+
+pub first_few : (t : List ℕ) (S : List Signature) → Right (raw_lines t) → 0 < length (lines t) → S ≡ map line_signature (lines t) → first_count S ≤ 8
+first_few t S r o s = rw (s, lines_raw t) (few_of (raw_lines t) r (rw (← lines_raw t) o))
+
 few_first : (L : List Line) → 1 ≤ length L → Every Lined L → first_count (map line_signature L) ≤ 8
 unfolding line_signature Every
 few_first [] o l = absurd (omega (arith, o))
@@ -110,10 +120,10 @@ packed_is l E (n ∷ N) p q =
 named : (t : List ℕ) → Right (raw_lines t) → Names (names (lines t))
 named t r = subst (λ (H : List Line). Names (names H)) (sym (lines_raw t)) (named_lines (raw_lines t) r)
 
-names_are : (t M : List ℕ) → judge_shape t ≡ fine tt → M ≡ map name_number (lines t) → judge_packed 1 [] M ≡ judge_names 1 [] (map (λ h. h.name) (lines t))
+pub names_are : (t M : List ℕ) → Right (raw_lines t) → M ≡ map name_number (lines t) → judge_packed 1 [] M ≡ judge_names 1 [] (map (λ h. h.name) (lines t))
 unfolding Names
-names_are t M s e =
-    ap (judge_packed 1 []) (e ∙ names_packed (lines t)) ∙ packed_is 1 [] (map (λ h. h.name) (lines t)) tt (named t (right_shape t s))
+names_are t M r e =
+    ap (judge_packed 1 []) (e ∙ names_packed (lines t)) ∙ packed_is 1 [] (map (λ h. h.name) (lines t)) tt (named t r)
 
 -- A text whose shape and counts pass, and arrays that begin with the names and signatures of its lines where they are long enough.
 module _ {t N N1 : List ℕ} {H H1 : List Signature} {c : Counted} (r : Scan t N N1 H H1 (Ok c)) where
@@ -166,10 +176,10 @@ module _ {t N N1 : List ℕ} {H H1 : List Signature} {c : Counted} (r : Scan t N
       entry_few = let k = shape_lines t shaped in omega (arith, entry, few_first (lines t) k.some_line k.each)
 
       pub passes : length t ≤ most_bytes → Ok tt ≡ shown (judge_packed 1 [] (take c.functions N1)) → check t ≡ read_bodies (lines t) 1 (lines t)
-      passes h x = all_pass t h shaped counts_pass (sym (names_are t _ shaped names_part) ∙ (found_fine _ _ tt (sym x)).1)
+      passes h x = all_pass t h shaped counts_pass (sym (names_are t _ (right_shape t shaped) names_part) ∙ (found_fine _ _ tt (sym x)).1)
 
       pub names_repeat : {e : Refusal} → Err e ≡ shown (judge_packed 1 [] (take c.functions N1)) → Err e ≡ shown (judge_names 1 [] (map (λ h. h.name) (lines t)))
-      names_repeat x = x ∙ ap shown (names_are t _ shaped names_part)
+      names_repeat x = x ∙ ap shown (names_are t _ (right_shape t shaped) names_part)
 
 -- Arrays that fit a text of at most 2 n bytes: where its shape passes, a line takes eight bytes and a symbol two more.
 module _ (t N : List ℕ) (H : List Signature) (b : List ℕ) (w : List Symbol) (e : List ℕ) where
@@ -183,6 +193,11 @@ module _ (t N : List ℕ) (H : List Signature) (b : List ℕ) (w : List Symbol) 
         heads_fit = λ k. omega (arith, bytes k, m, q);
         room = λ k. record { bodies_fit = omega (arith, bytes k, m, r); symbols_fit = omega (arith, bytes k, m, x); ends_fit = omega (arith, bytes k, m, z) };
       }
+
+-- Arrays as long as those that fit.
+module _ (t N N1 : List ℕ) (H H1 : List Signature) (x : length N1 ≡ length N) (y : length H1 ≡ length H) where
+  pub still_fit : (b : List ℕ) (w : List Symbol) (e : List ℕ) → Fit t N H b w e → Fit t N1 H1 b w e
+  still_fit b w e f = record { names_fit = λ k. omega (arith, f.names_fit k, x); heads_fit = λ k. omega (arith, f.heads_fit k, y); room = f.room }
 
 -- The table of an accepted text.
 
@@ -244,6 +259,15 @@ unfolding Finishes
 end_few t l first end b b1 w w1 e e1 (refused n i k) q h o = absurd (cc o)
 end_few t l first end b b1 w w1 e e1 (fine P) q h o =
     let d : end ≡ first + bodies_size P = cc in omega (arith, h, d, (theorem.accepted t P q).few_symbols)
+
+end_by : (L : List Line) (first end : ℕ) (b b1 : List ℕ) (w w1 : List Symbol) (e e1 : List ℕ) (V : Verdict Program) → read_bodies L 1 L ≡ V → Finishes 0 first b b1 w w1 e e1 V (Ok end) → end ≡ first + total L
+unfolding Finishes
+end_by L first end b b1 w w1 e e1 (fine P) q o = let d : end ≡ first + bodies_size P = cc in d ∙ ap (λ (n : ℕ). first + n) (sizes_of L 1 L P q)
+end_by L first end b b1 w w1 e e1 (refused n l k) q o = absurd (cc o)
+
+pub end_is : (L : List Line) (first end : ℕ) (b b1 : List ℕ) (w w1 : List Symbol) (e e1 : List ℕ) (g : Result ℕ Refusal) → Finishes 0 first b b1 w w1 e e1 (read_bodies L 1 L) g → g ≡ Ok end → end ≡ first + total L
+end_is L first end b b1 w w1 e e1 g o d =
+    end_by L first end b b1 w w1 e e1 (read_bodies L 1 L) refl (subst (λ (r : Result ℕ Refusal). Finishes 0 first b b1 w w1 e e1 (read_bodies L 1 L) r) d o)
 
 -- A body is refused.
 pub unread : (l from : ℕ) (b b1 : List ℕ) (w w1 : List Symbol) (e e1 : List ℕ) (V : Verdict Program) (x : Refusal) → Finishes l from b b1 w w1 e e1 V (Err x) → Err x ≡ found accepted V

@@ -1,15 +1,18 @@
--- A program that was read from lines: its heads, and its initial term. Assumes nothing.
-use Rattle.std.proofs.Common.{◌≡◌, ℕ, zero, suc, ◌+◌, ◌-◌, ◌≤◌, List, [], ◌∷◌, ◌++◌, map, length, refl, ap, ◌∙◌, subst, add-one, arith}
+-- A program that was read from lines: its heads, its initial term, and its symbols. Assumes nothing.
+use Rattle.std.proofs.Common.{◌≡◌, ℕ, zero, suc, ◌+◌, ◌-◌, ◌≤◌, List, [], ◌∷◌, ◌++◌, map, length, refl, ap, sym, ◌∙◌, subst, add-one, arith}
 use Rattle.std.specs.List.{range_with_len}
-use Rattle.std.proofs.lemmas.List.{map-append}
+use Rattle.std.proofs.lemmas.List.{map-append, length-append, length-map}
 use Rattle.meaning.specs.Text.{Line, Verdict, fine, refused, ◌>>=◌}
-use Rattle.meaning.specs.Terms.{Read, got, fault, Function, Program, read_body, function_of, read_bodies}
-use Rattle.meaning.specs.Code.{size, own, initial}
+use Rattle.meaning.specs.Numbers.{most_depth}
+use Rattle.meaning.specs.Terms.{Term, Symbol as Meant, symbol, Read, got, fault, Function, Program, nothing_after, read_body, function_of, read_bodies}
+use Rattle.meaning.specs.Code.{size, own, initial, bodies_size}
 use Rattle.table.specs.Table.{term_symbols, row_symbols, term_ends, row_ends, signatures}
 use Rattle.table.specs.declared.Symbol.{Symbol}
 use Rattle.table.specs.declared.Symbol.TheVariants.{Argument, Function as Call}
 use Rattle.accepted.proofs.Initial.{own_sizes}
-use Rattle.lines.specs.Lines.{line_signature}
+use Rattle.lines.specs.Lines.{total, line_signature}
+use Rattle.terms.proofs.Flat as flat
+use Rattle.terms.proofs.Flat.{symbol_count, Taken, taken_term}
 
 -- Heads.
 
@@ -81,3 +84,34 @@ module _ (F : Function) (P : Program) (n : ℕ) (e : length F.sorts ≡ n) (h : 
       let s : 1 + n ≡ n + 1 = omega arith in
       rw (e, own_sizes F.strict 0, own_sizes (n - F.strict) F.strict, all, s, own_ends F.strict 0 1, own_ends (n - F.strict) F.strict (1 + F.strict))
       (ap (λ (l : List ℕ). (n + 1) ∷ l) (ranges_join F.strict (n - F.strict) 2 (1 + F.strict + 1) (omega arith) ∙ ap (range_with_len 2) all))
+
+-- A body that is read has a symbol for each field.
+
+whole_size : (ys : List Meant) (R : Read Term) (t : Term) (zs : List Meant) → Taken ys R → nothing_after R ≡ got t zs → size t ≡ length ys
+unfolding Taken nothing_after
+whole_size ys (got u []) t zs p e =
+    let z : u ≡ t = cc in
+    sym (ap size z) ∙ omega (arith, ap length p, length-append (flat.term_symbols u) [], symbol_count u)
+whole_size ys (got u (x ∷ xs)) t zs p e = absurd (cc e)
+whole_size ys (fault w xs) t zs p e = absurd (cc e)
+
+body_size : (H : List Line) (h : Line) (t : Term) (zs : List Meant) → read_body H h ≡ got t zs → size t ≡ length h.body
+unfolding read_body
+body_size H h t zs e =
+    whole_size _ _ t zs (taken_term H h.sorts most_depth h.result (map (symbol (map (λ k. k.name) H)) h.body)) e ∙ length-map h.body (symbol (map (λ k. k.name) H))
+
+size_more : (X : Verdict Program) (F : Function) (n : ℕ) (hs : List Line) (P : Program) → size F.body ≡ n → ((Q : Program) → X ≡ fine Q → bodies_size Q ≡ total hs) → (X >>= λ Q. fine (F ∷ Q)) ≡ fine P → bodies_size P ≡ n + total hs
+unfolding ◌>>=◌ bodies_size
+size_more (fine Q) F n hs P a k e = let z : F ∷ Q ≡ P = cc in sym (ap bodies_size z) ∙ omega (arith, a, k Q refl)
+size_more (refused m l i) F n hs P a k e = absurd (cc e)
+
+size_line : (H : List Line) (l : ℕ) (h : Line) (hs : List Line) (R : Read Term) (X : Verdict Program) (P : Program) → read_body H h ≡ R → ((Q : Program) → X ≡ fine Q → bodies_size Q ≡ total hs) →
+    (function_of l h R >>= λ F. X >>= λ Q. fine (F ∷ Q)) ≡ fine P → bodies_size P ≡ length h.body + total hs
+unfolding function_of ◌>>=◌
+size_line H l h hs (got t zs) X P q k e = size_more X _ (length h.body) hs P (body_size H h t zs q) k e
+size_line H l h hs (fault w zs) X P q k e = absurd (cc e)
+
+pub sizes_of : (H : List Line) (l : ℕ) (hs : List Line) (P : Program) → read_bodies H l hs ≡ fine P → bodies_size P ≡ total hs
+unfolding read_bodies bodies_size total
+sizes_of H l [] P e = let z : [] ≡ P = cc in sym (ap bodies_size z)
+sizes_of H l (h ∷ hs) P e = size_line H l h hs (read_body H h) (read_bodies H (l + 1) hs) P refl (sizes_of H (l + 1) hs) e

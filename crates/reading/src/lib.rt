@@ -1,4 +1,4 @@
-// The core of Check: any bytes to an answer and, where they are accepted, to names, signatures, addresses and the table of symbols in a lent table.
+// The core of Check: any bytes to an answer and, where they are accepted, to names, signatures, addresses and the table of symbols in lent arrays.
 // Its cost grows linearly with the text but for names: a comparison for each pair of functions and for each symbol and function. Assumes nothing.
 #![tactic(auto)]
 
@@ -15,7 +15,7 @@ ghost use Rattle.lines.specs.Splice.{splice};
 ghost use Rattle.reading.specs.Reading.{Fit};
 
 use meaning::{Accepted, Number, Refusal};
-use table::{Symbol, Table};
+use table::{Signature, Symbol, Table};
 
 // Room beside the bodies' symbols: the initial term has nine symbols at most; one word is to spare, for RET.
 pub const INITIAL_ROOM: usize = meaning::MOST_ARGUMENTS + 2;
@@ -41,13 +41,18 @@ fn initial(arguments: u32, symbols: &mut [Symbol], ends: &mut [u32]) -> usize
 }
 
 // "Order: 1, then 2 over all lines, 3, 4, then 5 and 6 by the first place"; 13, 14 and 15 stand where 5 stood.
-pub fn read<const F: usize, const S: usize>(
+// The arrays are lent one by one: a caller's may be of any lengths, each its own, as long as they fit.
+pub fn read(
     text: &[u8],
-    table: &mut Table<F, S>,
+    names: &mut [u64],
+    heads: &mut [Signature],
+    bodies: &mut [u32],
+    symbols: &mut [Symbol],
+    ends: &mut [u32],
 ) -> Result<Accepted, Refusal>
-    requires { Fit text.now table.old.names table.old.heads table.old.bodies table.old.symbols table.old.ends }
+    requires { Fit text.now names.old heads.old bodies.old symbols.old ends.old }
     ensures answer { result ≡ found accepted (check text.now) }
-    ensures table { (P : Program) → check text.now ≡ fine P → Holds P table.new.symbols table.new.ends table.new.heads table.new.bodies }
+    ensures table { (P : Program) → check text.now ≡ fine P → Holds P symbols.new ends.new heads.new bodies.new }
 {
     if meaning::MOST_BYTES < text.len() {
         return Err(Refusal {
@@ -56,23 +61,34 @@ pub fn read<const F: usize, const S: usize>(
             field: 0,
         });
     }
-    let counted = lines::scan(text, &mut table.names, &mut table.heads)?;
+    let counted = lines::scan(text, names, heads)?;
     lines::counts(text, counted.functions, counted.symbols)?;
-    let names = &table.names[..counted.functions];
+    let names = &names[..counted.functions];
     lines::repeats(names)?;
-    let heads = &table.heads[..counted.functions];
-    let first = initial(heads[0].sorts.count, &mut table.symbols, &mut table.ends);
-    let end = bodies::read_lines(
-        text,
-        names,
-        heads,
-        first,
-        &mut table.bodies,
-        &mut table.symbols,
-        &mut table.ends,
-    )?;
+    let heads = &heads[..counted.functions];
+    let first = initial(heads[0].sorts.count, symbols, ends);
+    let end = bodies::read_lines(text, 0, 0, names, heads, first, bodies, symbols, ends)?;
     Ok(Accepted {
         functions: counted.functions,
         instructions: end + 1,
     })
+}
+
+// The same with the arrays of one table.
+pub fn read_table<const F: usize, const S: usize>(
+    text: &[u8],
+    table: &mut Table<F, S>,
+) -> Result<Accepted, Refusal>
+    requires { Fit text.now table.old.names table.old.heads table.old.bodies table.old.symbols table.old.ends }
+    ensures answer { result ≡ found accepted (check text.now) }
+    ensures table { (P : Program) → check text.now ≡ fine P → Holds P table.new.symbols table.new.ends table.new.heads table.new.bodies }
+{
+    read(
+        text,
+        &mut table.names,
+        &mut table.heads,
+        &mut table.bodies,
+        &mut table.symbols,
+        &mut table.ends,
+    )
 }

@@ -11,12 +11,12 @@ use borrow.Author.Tests.{ne_eqb, ltb-true, leb-true}
 use Rattle.meaning.specs.Basics.{all, between, bytes}
 use Rattle.meaning.specs.Arithmetic.{number, yes_no, constant}
 use Rattle.meaning.specs.Text.{Field, same, value, is_name, is_visible, is_capital, is_digit}
-use Rattle.meaning.specs.Terms.{Symbol, operation, condition, unknown, Word, vocabulary, spelt_in, named, is_decimal, symbol}
+use Rattle.meaning.specs.Terms.{Symbol, operation, condition, function, unknown, Word, vocabulary, spelt_in, named, is_decimal, symbol}
 use Rattle.fields.specs.Fields.{packed, is_name_byte}
 use Rattle.fields.proofs.Laws.{and_left, and_right, Bytes, packed_same}
 use Rattle.table.specs.Symbols.{symbol_in}
 use Rattle.table.specs.declared.Symbol.{Symbol as Entry}
-use Rattle.symbols.specs.Symbols.{Named, named_as, short_symbol, or_else, one_byte_symbol, decimal_or, some_bytes_symbol, symbol_by}
+use Rattle.symbols.specs.Symbols.{Named, Spelt, AllSpelt, named_as, short_symbol, or_else, one_byte_symbol, decimal_or, some_bytes_symbol, symbol_by}
 
 -- Names and visible fields are made of bytes from 1 to 255.
 
@@ -170,3 +170,35 @@ pub meant : (M : List ℕ) (f : Field) (r : Entry) → r ≡ symbol_in (symbol_b
     (r ≡ symbol_in (symbol_by M f)) × ((N : List Field) → Named N → M ≡ map packed N → is_visible f ≡ true → r ≡ symbol_in (symbol N f))
 meant M f r e =
     (e, λ N p m v. e ∙ ap (λ (X : List ℕ). symbol_in (symbol_by X f)) m ∙ ap symbol_in (symbol_is N f (named_names N p) (visible_bytes f v)))
+
+-- Of the symbols of a text, the arguments are a to h.
+WordsSpelt : List Word → Type 0
+WordsSpelt [] = Unit {0}
+WordsSpelt (w ∷ ws) = Spelt w.means × WordsSpelt ws
+
+words_spelt : WordsSpelt vocabulary
+unfolding WordsSpelt Spelt
+words_spelt = (omega arith, (omega arith, (omega arith, (omega arith, (omega arith, (omega arith, (omega arith, (omega arith, (tt, (tt, (tt, (tt, (tt, (tt, (tt, (tt, (tt, (tt, (tt, (tt, (tt, tt)))))))))))))))))))))
+
+if_spelt : (t : Bool) (y z : Symbol) → Spelt y → Spelt z → Spelt (if t then y else z)
+if_spelt true y z p q = p
+if_spelt false y z p q = q
+
+spelt_spelt : (ws : List Word) (f : Field) (y : Symbol) → WordsSpelt ws → Spelt y → Spelt (spelt_in ws f y)
+unfolding spelt_in WordsSpelt
+spelt_spelt [] f y p q = q
+spelt_spelt (w ∷ ws) f y p q = if_spelt (same f w.spelt) w.means (spelt_in ws f y) p.0 (spelt_spelt ws f y p.1 q)
+
+named_spelt : (i : ℕ) (N : List Field) (f : Field) → Spelt (named i N f)
+unfolding named Spelt
+named_spelt i [] f = tt
+named_spelt i (n ∷ N) f = if_spelt (same f n) (function i) (named (i + 1) N f) tt (named_spelt (i + 1) N f)
+
+pub symbol_spelt : (N : List Field) (f : Field) → Spelt (symbol N f)
+unfolding symbol Spelt
+symbol_spelt N f = spelt_spelt vocabulary f _ words_spelt (if_spelt (is_decimal f) (operation (constant number (value f))) (named 0 N f) tt (named_spelt 0 N f))
+
+pub all_symbols_spelt : (N fs : List Field) → AllSpelt (map (symbol N) fs)
+unfolding AllSpelt
+all_symbols_spelt N [] = tt
+all_symbols_spelt N (f ∷ fs) = (symbol_spelt N f, all_symbols_spelt N fs)

@@ -1,10 +1,23 @@
 -- Symbols by packed names. Assumes nothing.
-use Rattle.std.specs.Prelude.{◌≡◌, true, List, [], ◌∷◌, ℕ, ◌+◌, ltb, eqb, length, get_or, if◌then◌else◌}
+use Rattle.std.specs.Prelude.{◌≡◌, true, List, [], ◌∷◌, ℕ, ◌+◌, ◌<◌, ltb, eqb, length, get_or, if◌then◌else◌}
 use Rattle.meaning.specs.Basics.{bytes}
 use Rattle.meaning.specs.Arithmetic.{number, yes_no, constant}
+use Rattle.meaning.specs.Numbers.{most_arguments}
 use Rattle.meaning.specs.Text.{Field, value, is_name}
 use Rattle.meaning.specs.Terms.{Symbol, argument, operation, condition, function, unknown, is_decimal, symbol}
 use Rattle.fields.specs.Fields.{packed}
+
+-- A symbol that a text can spell: its arguments are a to h.
+unfoldable pub Spelt : Symbol → Type 0
+Spelt (argument i) = i < most_arguments
+Spelt (operation o) = Unit {0}
+Spelt condition = Unit {0}
+Spelt (function k) = Unit {0}
+Spelt unknown = Unit {0}
+
+unfoldable pub AllSpelt : List Symbol → Type 0
+AllSpelt [] = Unit {0}
+AllSpelt (y ∷ ys) = Spelt y × AllSpelt ys
 
 -- Fields that are all names.
 unfoldable pub Named : List Field → Type 0

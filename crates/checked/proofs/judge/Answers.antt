@@ -16,4 +16,4 @@ counts (fine P) h = let a = h P refl in (omega (arith, a.few_functions), omega (
 counts (refused n l f) h = tt
 
 pub of-c-requires : goal.of-c-requires
-of-c-requires g c = rw c.read.ensures.answer (counts _ (checks.accepted c.args.text.now))
+of-c-requires g c = rw c.read_table.ensures.answer (counts _ (checks.accepted c.args.text.now))

@@ -6,12 +6,12 @@ use Rattle.console.proofs.answer.Goals as goal
 
 pub returns-clause-answer : goal.returns-clause-answer
 unfolding answer_in
-returns-clause-answer c = rw (asked _ _ _ c.in-Some.ensures).0 (rw (take_rest, c.deref.ensures.0) at c.run.ensures.answer)
+returns-clause-answer c = rw (asked _ _ _ c.in-Some.ensures).0 (rw (take_rest, c.as_slice-args.ensures) at c.run.ensures.answer)
 
 pub returns-clause-code : goal.returns-clause-code
 unfolding code_in
-returns-clause-code c = rw (asked _ _ _ c.in-Some.ensures).0 (rw (take_rest, c.deref.ensures.0) at c.run.ensures.code)
+returns-clause-code c = rw (asked _ _ _ c.in-Some.ensures).0 (rw (take_rest, c.as_slice-args.ensures) at c.run.ensures.code)
 
 pub returns-clause-work : goal.returns-clause-work
 unfolding work_in
-returns-clause-work c = rw (asked _ _ _ c.in-Some.ensures).0 (rw (take_rest, c.deref.ensures.0) at c.run.ensures.work)
+returns-clause-work c = rw (asked _ _ _ c.in-Some.ensures).0 (rw (take_rest, c.as_slice-args.ensures) at c.run.ensures.work)

@@ -3,4 +3,4 @@ use Rattle.nespralha.proofs.run_in.Goals as goal
 
 pub returns : goal.returns
 returns g c =
-    c.run_table.ensures c.args.text.now c.read-read.new.table.bodies (rw (c.view.ensures.functions, c.view.ensures.symbols.0, c.view.ensures.symbols.1) (record { answer = c.read-read.ensures.answer; held = c.read-read.ensures.table }))
+    c.run_table.ensures c.args.text.now c.read_table-read.new.table.bodies (rw (c.view.ensures.functions, c.view.ensures.symbols.0, c.view.ensures.symbols.1) (record { answer = c.read_table-read.ensures.answer; held = c.read_table-read.ensures.table }))

@@ -1,5 +1,5 @@
 -- `coding::Emitter::put_instruction` meets its contract. Assumes nothing.
-use Rattle.std.proofs.Common.{refl, sym, ◌∙◌}
+use Rattle.std.proofs.Common.{ℕ, [], ◌∷◌, ap, refl, sym, ◌∙◌}
 use Rattle.meaning.specs.Code.{twelve}
 use Rattle.coding.proofs.Instructions as laws
 use Rattle.coding.proofs.Emitter.put_instruction.Goals as goal
@@ -10,7 +10,7 @@ returns-in-Unknown c = laws.stored_plain _ _ _ _ _ _ _ _ _ _ _ (sym c.symbol.ens
 
 pub returns-in-Argument : goal.returns-in-Argument
 unfolding twelve
-returns-in-Argument c = laws.stored_plain _ _ _ _ _ _ _ _ _ _ _ (sym c.symbol.ensures ∙ c.in-Argument.is) c.store-in-Argument.ensures tt refl
+returns-in-Argument c = laws.stored_plain _ _ _ _ _ _ _ _ _ _ _ (sym c.symbol.ensures ∙ c.in-Argument.is) c.store-in-Argument.ensures tt (ap (λ (k : ℕ). 1 ∷ c.args.next ∷ k ∷ 0 ∷ 0 ∷ 0 ∷ 0 ∷ 0 ∷ 0 ∷ 0 ∷ 0 ∷ 0 ∷ []) c.saturating_add.ensures)
 
 pub returns-in-Constant : goal.returns-in-Constant
 returns-in-Constant c = laws.stored_plain _ _ _ _ _ _ _ _ _ _ _ (sym c.symbol.ensures ∙ c.in-Constant.is) c.store-in-Constant.ensures tt c.execute.ensures
