@@ -27,7 +27,7 @@ use Rattle.meaning.proofs.Said.{found_fine, found_refused}
 use Rattle.meaning.specs.declared.Accepted.{Accepted}
 use Rattle.meaning.specs.declared.Answer.{Answer}
 use Rattle.meaning.specs.declared.Head.{Head}
-use Rattle.table.specs.Symbols.{sort_in, sort_of_bit, mask, signature}
+use Rattle.table.specs.Symbols.{sort_in, sort_of_bit, mask, signature, no_head}
 use Rattle.table.specs.Table.{signatures, addresses, Begins, Holds}
 use Rattle.table.specs.declared.Signature.{Signature}
 use Rattle.table.specs.declared.Symbol.{Symbol}
@@ -88,13 +88,18 @@ unfolding signatures
 no_entry [] heads ok h e = omega (arith, ok.some_function)
 no_entry (F ∷ P) heads ok h e = let q : slice_get heads 0 ≡ Some (signature F.sorts F.strict F.result) = ap (λ (l : List Signature). slice_get l 0) h.whole in absurd (cc)
 
-pub entry_fits : (P : Program) (heads : List Signature) (g : Signature) (vs : List ℕ) → programs.Accepted P → Begins heads (signatures P) → slice_get heads 0 ≡ Some g → fits_signature g vs ≡ fitting P vs
+first_fits : (P : Program) (heads : List Signature) (g : Signature) (vs : List ℕ) → programs.Accepted P → Begins heads (signatures P) → slice_get heads 0 ≡ Some g → fits_signature g vs ≡ fitting P vs
 unfolding signatures fitting Every
-entry_fits [] heads g vs ok h e = absurd (omega (arith, ok.some_function))
-entry_fits (F ∷ P) heads g vs ok h e =
+first_fits [] heads g vs ok h e = absurd (omega (arith, ok.some_function))
+first_fits (F ∷ P) heads g vs ok h e =
     let q : slice_get heads 0 ≡ Some (signature F.sorts F.strict F.result) = ap (λ (l : List Signature). slice_get l 0) h.whole in
     let same : g ≡ signature F.sorts F.strict F.result = cc in
     rw same (signature_fits F.sorts F.strict F.result vs)
+
+pub entry_fits : (P : Program) (heads : List Signature) (vs : List ℕ) → programs.Accepted P → Begins heads (signatures P) → fits_signature (get_or heads 0 no_head) vs ≡ fitting P vs
+unfolding signatures fitting Every
+entry_fits [] heads vs ok h = absurd (omega (arith, ok.some_function))
+entry_fits (F ∷ P) heads vs ok h = rw h.whole (signature_fits F.sorts F.strict F.result vs)
 
 pub few_fit : (P : Program) (vs : List ℕ) → programs.Accepted P → fitting P vs ≡ true → length vs ≤ 8
 unfolding fitting Every
@@ -210,7 +215,7 @@ module _ (text : List ℕ) (symbols : List Symbol) (ends : List ℕ) (heads : Li
 
       module _ (g : Signature) (first : slice_get heads 0 ≡ Some g) where
         fits_so : (b : Bool) → b ≡ fits_signature g args → fitting P args ≡ b
-        fits_so b h = sym (h ∙ entry_fits P heads g args ok held.heads_held first)
+        fits_so b h = sym (h ∙ first_fits P heads g args ok held.heads_held first)
 
         pub run_arguments : (b : Bool) → b ≡ fits_signature g args → b ≡ false → RunOutcome text args limit code work (Err (refusal ARGS 0 0)) code work
         run_arguments b h f = refused_arguments (fits_so b h ∙ f)

@@ -117,7 +117,7 @@ pub fn run_table(
     if code.len() / INSTRUCTION_WORDS < accepted.instructions || work.len() < WORK_WORDS {
         return Err(NO_ROOM);
     }
-    // Never met: what fits an entry are eight arguments at most.
+    // Never met: what fits an entry is eight arguments at most.
     if MOST_ARGUMENTS < args.len() {
         return Err(NO_FIT);
     }

@@ -34,16 +34,16 @@ lead (op o ts) = count ts
 lead (cond t x y) = 1
 lead (call f ss ws) = count ss
 
--- A function's strict count in the signatures, 0 past them.
-abbrev pub strict_at : List Signature → ℕ → ℕ
-strict_at H f = option_map_or (λ h. h.strict) (slice_get H f) 0
-
--- The same from the symbol, H being the functions' signatures.
 -- The table's symbols of the first operation and of `!`.
 pub operations_agree : op_symbol add ∷ op_symbol neg ∷ [] ≡ Operation Plus ∷ Not ∷ []
 unfolding op_symbol
 operations_agree = refl
 
+-- A function's strict count in the signatures, 0 past them.
+abbrev pub strict_at : List Signature → ℕ → ℕ
+strict_at H f = option_map_or (λ h. h.strict) (slice_get H f) 0
+
+-- The same from the symbol, H being the functions' signatures.
 unfoldable pub leads_of : List Signature → Symbol → ℕ
 leads_of H Unknown = 0
 leads_of H (Argument i) = 0

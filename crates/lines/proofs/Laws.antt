@@ -25,6 +25,9 @@ use Rattle.meaning.specs.Basics.{all}
 use Rattle.meaning.specs.Arithmetic.{number, yes_no}
 use Rattle.meaning.specs.Numbers.{LINE, COUNT, NAME}
 use Rattle.meaning.specs.Said.{found, refusal}
+use Rattle.meaning.specs.declared.Refusal.{Refusal}
+use Rattle.meaning.proofs.Said.{found_refused}
+use Rattle.lines.specs.declared.Counted.{Counted}
 use Rattle.meaning.specs.Text.{Field, fine, refused, Passed, Line, pieces, onto_first, is_visible, is_name, is_capital, is_count, are_sorts, is_sort, is_result, value, value_from, forms, first_wrong, wrong_field, judge_line, judge_lines, judge_shape, sort_of, line_of, all_but_last, lines, judge_symbols, judge_counts}
 use Rattle.meaning.specs.Answers.{sort_number}
 use Rattle.table.specs.Symbols.{signature, mask}
@@ -726,17 +729,27 @@ scan_begins t names heads h =
     }
 
 -- A refused shape.
-pub scan_refused : (t names names' : List ℕ) (heads heads' : List Signature) (l k : ℕ) → judge_shape t ≡ refused LINE l k → Scan t names names' heads heads' (Err (misfit l k))
+shape_refused : (t names names' : List ℕ) (heads heads' : List Signature) (l k : ℕ) → judge_shape t ≡ refused LINE l k → Scan t names names' heads heads' (Err (misfit l k))
 unfolding found
-scan_refused t names names' heads heads' l k x =
+shape_refused t names names' heads heads' l k x =
     record {
       shape_judged = rw x;
       names_filled = λ y m. cc;
       heads_filled = λ y m. cc;
     }
 
+pub scan_refused : (t names names' : List ℕ) (heads heads' : List Signature) (l k : ℕ) (r : Result Counted Refusal) → r ≡ Err (misfit l k) → Err (refusal LINE l k) ≡ shown (judge_shape t) → Scan t names names' heads heads' r
+unfolding found
+scan_refused t names names' heads heads' l k r e x =
+    let p = found_refused (λ _. tt) (judge_shape t) (misfit l k) (sym x) in
+    record {
+      shape_judged = rw (e, p.1) (ap Err p.2);
+      names_filled = λ y m. let n = p.1 in cc;
+      heads_filled = λ y m. let n = p.1 in cc;
+    }
+
 pub scan_empty : (t names : List ℕ) (heads : List Signature) → length t ≡ 0 → Scan t names names heads heads (Err (misfit 1 1))
-scan_empty t names heads e = scan_refused t names names heads heads 1 1 (shape_none t e)
+scan_empty t names heads e = shape_refused t names names heads heads 1 1 (shape_none t e)
 
 -- No line is left: the text is closed, or it is not.
 module _ (t names₀ names : List ℕ) (heads₀ heads : List Signature) (left : List Field) (n symbols : ℕ) (i : Scanning t names₀ names heads₀ heads left n symbols) (none : left ≡ []) (some : length t ≡ 0 → ⊥) where
@@ -745,7 +758,7 @@ module _ (t names₀ names : List ℕ) (heads₀ heads : List Signature) (left :
 
   pub scan_open : (get_or t (length t - 1) 0 ≡ 10 → ⊥) → Scan t names₀ names heads₀ heads (Err (misfit (n + 1) 0))
   unfolding judge_each
-  scan_open o = scan_refused t names₀ names heads₀ heads (n + 1) 0 (sym ends ∙ rw (ne_eqb (get_or t (length t - 1) 0) 10 o))
+  scan_open o = shape_refused t names₀ names heads₀ heads (n + 1) 0 (sym ends ∙ rw (ne_eqb (get_or t (length t - 1) 0) 10 o))
 
   pub scan_ends : get_or t (length t - 1) 0 ≡ 10 → Scan t names₀ names heads₀ heads (Ok (record { functions = n; symbols = symbols }))
   unfolding judge_each total sets found
@@ -765,7 +778,7 @@ module _ (t names₀ names : List ℕ) (heads₀ heads : List Signature) (left :
   unfolding judged_line judge_each
   scan_wrong w r x y =
       let k = wrong_is (wrong_field (pieces 9 p)) _ w (sym x ∙ y) in
-      scan_refused t names₀ names heads₀ heads (n + 1) w (sym i.shape ∙ rw (e, ← k.0) (judged_bad (n + 1) w _ k.1))
+      shape_refused t names₀ names heads₀ heads (n + 1) w (sym i.shape ∙ rw (e, ← k.0) (judged_bad (n + 1) w _ k.1))
 
   module _ (w : ℕ) (r : Result ℕ ℕ) (x : r ≡ Ok w) (y : r ≡ judged_line (pieces 9 p)) where
     sound_part : (wrong_field (pieces 9 p) ≡ 0) × (w ≡ body_fields p)

@@ -47,8 +47,8 @@ module _ (w v args : List ℕ) (n : ℕ) (room : work_words ≤ length w) (few :
     kept = drop-set-lt work_words v (first_slot + n) (get_or args n 0) (omega arith) ∙ g.kept;
   }
 
-pub given_all : (w v args : List ℕ) (n : ℕ) → Given w v args n → n ≡ length args → Given w v args (length args)
-given_all w v args n g e = subst (Given w v args) e g
+pub given_all : (w v args : List ℕ) (n : ℕ) → Given w v args n → n ≤ length args → length args ≤ n → Given w v args (length args)
+given_all w v args n g a b = let e : n ≡ length args = omega arith in subst (Given w v args) e g
 
 frame_by : (v args : List ℕ) → cell v 1 strict_word ≡ length args → cell v 1 size_word ≡ length args → length args ≤ most_arguments → row v first_slot (length args) ≡ args → frame v 1 ≡ map value args
 unfolding frame row

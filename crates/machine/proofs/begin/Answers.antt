@@ -13,4 +13,4 @@ pub loop-n-preserved : goal.loop-n-preserved
 loop-n-preserved c = let l = c.loop-n in (simp length-set (search rules), given_more c.args.work.now l.work c.args.args.now l.n c.requires.0 (omega (arith, c.requires.1)) l.invariant.1)
 
 pub returns : goal.returns
-returns c = begun c.args.work.now c.loop-n.work c.args.args.now c.requires.0 c.requires.1 (given_all _ _ _ _ c.loop-n.invariant.1 (omega arith))
+returns c = begun c.args.work.now c.loop-n.work c.args.args.now c.requires.0 c.requires.1 (given_all _ _ _ _ c.loop-n.invariant.1 (omega arith) (omega arith))
